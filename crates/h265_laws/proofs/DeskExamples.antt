@@ -1,0 +1,104 @@
+-- The desk, the wave, the words and the report, computed.
+use Rattle.std.specs.Prelude.{◌≡◌, ℕ, false, List, [], ◌∷◌, ◌++◌, map, codes, Ok, Some, None, unwrap_or, refl}
+use Rattle.std.specs.Fmt.{digits}
+use Rattle.h265_model.specs.Plain.{below}
+use Rattle.h265_model.specs.Lines.{Line, Fill, Blit, Cut}
+use Rattle.h265_model.specs.Script.{script_of, pieces_script, line_of, colours, number_up_to}
+use Rattle.h265_model.specs.Words.{Serial, Demo, row_of}
+use Rattle.h265_model.specs.Report.{report_text}
+use Rattle.h265_model.specs.Desk.{touched_by}
+use Rattle.h265_model.specs.Wave.{Jobs, Event, Claim, Sync, Code, Publish, Finish, new_wave, allows_row, inherited, row_bytes, results}
+use Rattle.h265_model.specs.Headline.{scripts_after, scripts_of}
+use Rattle.h265_model.specs.Histories.{own_order}
+use Rattle.h265_model.specs.Raster.{pictures, colour, raster, lines_of, rasters_after}
+
+report_1 : report_text 1 0 4693 ≡ codes "pictures 1" ++ 10 ∷ codes "paints 0" ++ 10 ∷ codes "bytes 4693" ++ 10 ∷ []
+unfolding digits
+report_1 = refl
+
+served : row_of (codes "serial" ∷ codes "32x32" ∷ codes "0" ∷ codes "1" ∷ codes "o" ∷ codes "f" ∷ []) ≡ Some (Serial (record { settings = record { size = record { w = 32; h = 32 }; effort = 0; key = 1 }; out = codes "o"; file = codes "f" }))
+unfolding row_of number_up_to
+served = refl
+
+usage_0 : row_of ([]) ≡ None
+unfolding row_of number_up_to
+usage_0 = refl
+
+usage_1 : row_of (codes "serial" ∷ codes "0x5" ∷ codes "0" ∷ codes "1" ∷ codes "o" ∷ codes "f" ∷ []) ≡ None
+unfolding row_of number_up_to
+usage_1 = refl
+
+usage_2 : row_of (codes "serial" ∷ codes "032x32" ∷ codes "0" ∷ codes "1" ∷ codes "o" ∷ codes "f" ∷ []) ≡ None
+unfolding row_of number_up_to
+usage_2 = refl
+
+usage_3 : row_of (codes "serial" ∷ codes "4097x1" ∷ codes "0" ∷ codes "1" ∷ codes "o" ∷ codes "f" ∷ []) ≡ None
+unfolding row_of number_up_to
+usage_3 = refl
+
+usage_4 : row_of (codes "serial" ∷ codes "4096x2161" ∷ codes "0" ∷ codes "1" ∷ codes "o" ∷ codes "f" ∷ []) ≡ None
+unfolding row_of number_up_to
+usage_4 = refl
+
+usage_5 : row_of (codes "record" ∷ codes "32x32" ∷ codes "65" ∷ codes "0" ∷ codes "0" ∷ codes "o" ∷ codes "f" ∷ []) ≡ None
+unfolding row_of number_up_to
+usage_5 = refl
+
+usage_6 : row_of (codes "record" ∷ codes "32x32" ∷ codes "1" ∷ codes "0" ∷ codes "0" ∷ codes "o" ∷ []) ≡ None
+unfolding row_of number_up_to
+usage_6 = refl
+
+usage_7 : row_of (codes "serial" ∷ codes "32x32" ∷ codes "3" ∷ codes "1" ∷ codes "o" ∷ codes "f" ∷ []) ≡ None
+unfolding row_of number_up_to
+usage_7 = refl
+
+usage_8 : row_of (codes "demo" ∷ codes "18446744073709551616" ∷ []) ≡ None
+unfolding row_of number_up_to
+usage_8 = refl
+
+greatest : row_of (codes "demo" ∷ codes "18446744073709551615" ∷ []) ≡ Some (Demo 18446744073709551615)
+unfolding row_of number_up_to
+greatest = refl
+
+-- a rectangle over a corner of four tiles, one at the desktop's edge, and one outside
+corner : touched_by (record { w = 64; h = 64 }) (Fill (record { x = 31; y = 31; w = 2; h = 2 }) (record { r = 0; g = 0; b = 0 }) ∷ []) ≡ 0 ∷ 1 ∷ 2 ∷ 3 ∷ []
+unfolding touched_by
+corner = refl
+
+edge : touched_by (record { w = 33; h = 32 }) (Fill (record { x = 32; y = 0; w = 900; h = 1 }) (record { r = 0; g = 0; b = 0 }) ∷ []) ≡ 1 ∷ []
+unfolding touched_by
+edge = refl
+
+outside : touched_by (record { w = 33; h = 32 }) (Fill (record { x = 33; y = 0; w = 9; h = 1 }) (record { r = 0; g = 0; b = 0 }) ∷ Fill (record { x = 0; y = 32; w = 9; h = 1 }) (record { r = 0; g = 0; b = 0 }) ∷ []) ≡ []
+unfolding touched_by
+outside = refl
+
+-- two rows of two units, whose bytes tell what they inherited
+abbrev jobs : Jobs
+jobs = record { width = 2; second = λ r o. r ∷ unwrap_or o []; bytes = λ r o. 100 ∷ r ∷ unwrap_or o [] }
+
+abbrev schedule : List Event
+schedule = Claim 0 ∷ Claim 1 ∷ Code 0 ∷ Code 0 ∷ Publish 0 ∷ Sync 1 ∷ Finish 0 ∷ Code 1 ∷ Code 1 ∷ Publish 1 ∷ Finish 1 ∷ []
+
+scheduled : (results jobs 2 schedule).finished ≡ map (λ r. Some (row_bytes jobs r)) (below 2)
+unfolding inherited
+scheduled = refl
+
+too_early : allows_row (new_wave 2 2) (Sync 1) ≡ false
+too_early = refl
+
+-- a script, its order and its pictures
+abbrev text : List ℕ
+text = codes "fill 0 0 1 1 0a0b0c" ++ 10 ∷ codes "cut" ++ 10 ∷ codes "blit 1 0 1 2 010203040506" ++ 10 ∷ codes "cut" ++ 10 ∷ []
+
+abbrev script : List Line
+script = Fill (record { x = 0; y = 0; w = 1; h = 1 }) (record { r = 10; g = 11; b = 12 }) ∷ Cut
+    ∷ Blit (record { x = 1; y = 0; w = 1; h = 2 }) (record { r = 1; g = 2; b = 3 } ∷ record { r = 4; g = 5; b = 6 } ∷ []) ∷ Cut ∷ []
+
+accepted : scripts_of (text ∷ []) ≡ Ok (script ∷ [])
+unfolding scripts_after script_of pieces_script line_of colours number_up_to
+accepted = refl
+
+shown : pictures (record { w = 2; h = 1 }) (script ∷ []) (own_order (script ∷ [])) ≡ (record { r = 10; g = 11; b = 12 } ∷ record { r = 0; g = 0; b = 0 } ∷ []) ∷ (record { r = 10; g = 11; b = 12 } ∷ record { r = 1; g = 2; b = 3 } ∷ []) ∷ []
+unfolding raster colour lines_of rasters_after
+shown = refl

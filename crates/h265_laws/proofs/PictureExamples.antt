@@ -1,0 +1,61 @@
+-- Small pictures, computed.
+use Rattle.std.proofs.Common.{◌≡◌, refl, ℕ, List, [], ◌∷◌}
+use Rattle.std.specs.Prelude.{Option, Some, None, map, nat_lt, ◌==◌, ◌%◌, ◌&&◌, if◌then◌else◌}
+use Rattle.h265_model.specs.Plain.{SliceKind, I, P, Size, Picture, Leaf, Kind, Skip, Pcm, Intra, joined}
+use Rattle.h265_model.specs.Contexts.{start, lps_range, next}
+use Rattle.h265_model.specs.Engine as Engine
+use Rattle.h265_model.specs.Engine.{doublings, renormalised, bin, context_read, bypass_read, terminate_read, aligned, samples, is_done}
+use Rattle.h265_model.specs.Code.{code, closing, put_bin}
+use Rattle.h265_model.specs.Residual.{scan, scan_kind, residual_items, residual_read, cbf, in_coding_order, in_rows, last_context, sig_context, sub_block_context, greater1_context, greater2_context}
+use Rattle.h265_model.specs.Modes.{candidates, mode_items, mode_read}
+use Rattle.h265_model.specs.Predict.{coding_order, neighbours, is_filtered, references, angle, inverse_angle, predict}
+use Rattle.h265_model.specs.Tree.{split_context, skip_context, candidates_at, coding_unit_items, ctu_items, source_of, items_of_row, row_items, coding_unit_read, ctu_read, read_row, ReadCtu}
+use Rattle.h265_model.specs.Choice.{intra_cost, pcm_cost, is_copy, modes_of, leaf_plan, choice}
+use Rattle.h265_model.specs.Rebuild.{block_of, rebuild}
+use Rattle.h265_model.specs.Bits.{bits as bits_of, ◌>>=◌ as and_then, u, digits_up_to, value_after, read_u, read_alignment}
+use Rattle.h265_model.specs.Raster.{planes, blank}
+
+abbrev size_of : ℕ → ℕ → Size
+size_of w h = record { w = w; h = h }
+
+abbrev grey : Picture
+grey component x y = 128
+
+abbrev leaf : ℕ → ℕ → ℕ → Kind → Leaf
+leaf x y log2 kind = record { x = x; y = y; log2 = log2; kind = kind }
+
+pub grey_choice : choice None grey (size_of 8 8) 1 0 ≡ leaf 0 0 3 (Intra 1) ∷ []
+unfolding choice leaf_plan intra_cost pcm_cost is_copy modes_of predict references is_filtered neighbours coding_order angle inverse_angle u digits_up_to value_after read_u read_alignment
+grey_choice = refl
+
+pub grey_row : code (row_items I (size_of 8 8) grey ((leaf 0 0 3 (Intra 1) ∷ []) ∷ []) 0) (start I) ≡ 0x15 ∷ 0x1D ∷ 0xC0 ∷ []
+unfolding start code closing put_bin lps_range doublings next items_of_row ctu_items coding_unit_items source_of split_context skip_context candidates_at candidates mode_items cbf residual_items scan scan_kind predict references is_filtered neighbours coding_order angle inverse_angle u digits_up_to value_after read_u read_alignment
+grey_row = refl
+
+pub skip_row : code (row_items P (size_of 32 32) blank ((leaf 0 0 5 Skip ∷ []) ∷ []) 0) (start P) ≡ 0x62 ∷ 0xF0 ∷ []
+unfolding start code closing put_bin lps_range doublings next items_of_row ctu_items coding_unit_items source_of split_context skip_context candidates_at candidates mode_items cbf residual_items scan scan_kind predict references is_filtered neighbours coding_order angle inverse_angle u digits_up_to value_after read_u read_alignment
+skip_row = refl
+
+-- the picture of 8x16 of which the lower half is one leaf with one level in each component
+abbrev striped : Picture
+striped component x y =
+    if x == 3 && y == 12 then 254 else if x % 2 == 0 && nat_lt x 8 then 0 else 255
+
+pub striped_choice : choice None striped (size_of 8 16) 1 0 ≡ leaf 0 0 3 Pcm ∷ leaf 0 8 3 (Intra 26) ∷ []
+unfolding choice leaf_plan intra_cost pcm_cost is_copy modes_of predict references is_filtered neighbours coding_order angle inverse_angle u digits_up_to value_after read_u read_alignment
+striped_choice = refl
+
+-- what the rows of a picture of one row give when they are read
+abbrev planes_read : SliceKind → Size → Picture → List ℕ → Option (List (List ℕ))
+planes_read kind size prev bytes =
+    and_then (Engine.start (start kind) (bits_of bytes)) (λ e.
+    and_then (read_row kind size 0 [] e) (λ found.
+    if is_done found.1 then Some (rebuild size prev (joined (map (λ (c : ReadCtu). c.leaves) found.0))) else None))
+
+pub grey_read : planes_read I (size_of 8 8) blank (0x15 ∷ 0x1D ∷ 0xC0 ∷ []) ≡ Some (planes (size_of 8 8) grey)
+unfolding start Engine.start lps_range doublings next renormalised context_read bypass_read terminate_read aligned samples is_done read_row ctu_read coding_unit_read split_context skip_context candidates_at candidates mode_read cbf residual_read in_rows scan scan_kind rebuild block_of predict references is_filtered neighbours coding_order angle inverse_angle u digits_up_to value_after read_u read_alignment
+grey_read = refl
+
+pub striped_read : planes_read I (size_of 8 16) blank (code (row_items I (size_of 8 16) striped ((leaf 0 0 3 Pcm ∷ leaf 0 8 3 (Intra 26) ∷ []) ∷ []) 0) (start I)) ≡ Some (planes (size_of 8 16) striped)
+unfolding start Engine.start lps_range doublings next renormalised context_read bypass_read terminate_read aligned samples is_done read_row ctu_read coding_unit_read split_context skip_context candidates_at candidates mode_read cbf residual_read in_rows scan scan_kind rebuild block_of predict references is_filtered neighbours coding_order angle inverse_angle code closing put_bin items_of_row ctu_items coding_unit_items source_of mode_items residual_items in_coding_order last_context sig_context sub_block_context greater1_context greater2_context u digits_up_to value_after read_u read_alignment
+striped_read = refl

@@ -1,0 +1,174 @@
+-- Laws over the definitions: what is written is read back.
+use Rattle.std.specs.Prelude.{◌≡◌, ℕ, ◌+◌, ◌-◌, ◌*◌, ◌^◌, ◌<◌, ◌≤◌, Bool, List, [], ◌∷◌, ◌++◌, length, take, IsTrue, Ok, Some, ℤ, map, flat_map, Option}
+use Rattle.std.specs.List.{AllByRecursion}
+use Rattle.h265_model.specs.declared.Item.{Item}
+use Rattle.h265_model.specs.Bits.{ue, bits, bytes, read_ue}
+use Rattle.h265_model.specs.Words.{Settings, is_size}
+use Rattle.h265_model.specs.Raster.{Raster, planes, coded_picture, stored_picture, crop, IsRaster}
+use Rattle.h265_model.specs.ParamSets.{param_units, read_params}
+use Rattle.h265_model.specs.SliceHead.{Head, head_bits, read_head, IsHead}
+use Rattle.h265_model.specs.Engine.{Engine, start, aligned, Gives, parts_of, Reads, ReadsWith}
+use Rattle.h265_model.specs.Code.{code, contexts_after, IsWellFormed}
+use Rattle.h265_model.specs.Contexts.{AreContexts}
+use Rattle.h265_model.specs.Stream.{pieces, stream_of, but_last}
+use Rattle.h265_model.specs.Decode.{decode}
+use Rattle.h265_model.specs.Plain.{Size, SliceKind, Kind, Leaf, ctus, leaf_with, Picture, IsPicture, below, joined, AreBytes}
+use Rattle.h265_model.specs.NalUnits.{NalUnit, stream_bytes, units, escape, unescape, IsNalUnit}
+use Rattle.h265_model.specs.Modes.{AreCandidates, mode_read, mode_items}
+use Rattle.h265_model.specs.Residual.{IsSide, AreLevels, cbf, shape, residual_read, residual_items}
+use Rattle.h265_model.specs.Tree.{Source, IsSource, IsMode, AreModes, IsAllowed, AreAllowed, AreLawfulTrees, IsLawfulTree, reads_of, coding_unit_read, coding_unit_items, ctu_read, ctu_items, read_row, items_of_row, values_from, source_of, ReadCtu, IsCopy}
+use Rattle.h265_model.specs.Slice.{substreams, IsSlice, row_code, read_data}
+use Rattle.h265_model.specs.Choice.{choice}
+use Rattle.h265_model.specs.Rebuild.{rebuild}
+use Rattle.h265_model.specs.Wave.{Jobs, Event, new_wave, AreLawful, AllFinished, after_events, results, row_bytes}
+
+-- ---- the high level syntax
+
+-- an Exp-Golomb code (9.2)
+abbrev pub EachCodeIsRead : Type 0
+EachCodeIsRead = (k : ℕ) (rest : List Bool) → k < 2 ^ 32 - 1 → read_ue (ue k ++ rest) ≡ Some (k, rest)
+
+-- a list of NAL units, from its byte stream (Annex B)
+abbrev pub EachNalUnitIsRead : Type 0
+EachNalUnitIsRead = (us : List NalUnit) → AllByRecursion IsNalUnit us → units (stream_bytes us) ≡ Ok us
+
+-- a size, from its parameter sets (7.3.2)
+abbrev pub EachSizeIsRead : Type 0
+EachSizeIsRead = (size : Size) → IsTrue (is_size size) → read_params (param_units size) ≡ Ok size
+
+-- and nothing else is read as that size
+abbrev pub EachSizeIsSpelled : Type 0
+EachSizeIsSpelled =
+    (us : List NalUnit) (size : Size) → AllByRecursion (λ unit. AreBytes unit.rbsp) us → read_params us ≡ Ok size → us ≡ param_units size
+
+-- a slice segment header, whatever follows it (7.3.6.1)
+abbrev pub EachHeadIsRead : Type 0
+EachHeadIsRead =
+    (head : Head) (rest : List ℕ) → IsHead head →
+    read_head (bytes (head_bits head) ++ rest) head.idr (length head.offsets + 1) ≡ Ok (head, length (bytes (head_bits head)))
+
+-- ---- slice data
+
+-- an engine between two lists of items, with the contexts that the code names there
+pub record IsBetween (front back : List Item) (contexts : List ℕ) (first left : Engine) : Type 0 where
+  pub between : Engine
+  pub before : Gives (parts_of front) first between
+  pub after : Gives (parts_of back) between left
+  pub contexts_are : between.contexts ≡ contexts_after front contexts
+
+-- The engine that starts on the code of a list, with any bytes z after it, gives the items. At each cut
+-- between parts it has the contexts that the code names there. In the end it has read the code, but for
+-- the zeros that fill its last byte
+pub record IsReadBack (list : List Item) (contexts z : List ℕ) : Type 0 where
+  pub first : Engine
+  pub left : Engine
+  pub starts : start contexts (bits (code list contexts ++ z)) ≡ Some first
+  pub gives : Gives (parts_of list) first left
+  pub contexts_are : left.contexts ≡ contexts_after list contexts
+  pub ends : aligned left ≡ Some (bits z)
+  pub cuts : (front back : List Item) → parts_of list ≡ parts_of front ++ parts_of back → IsBetween front back contexts first left
+
+-- what is coded is read back, whatever follows the code (9.3.4.3)
+abbrev pub EachListIsReadBack : Type 0
+EachListIsReadBack = (list : List Item) (contexts z : List ℕ) → IsWellFormed list → AreContexts contexts → IsReadBack list contexts z
+
+-- ---- what is read of items
+
+-- an intra mode (7.3.8.5, 8.4.2)
+abbrev pub EachModeIsRead : Type 0
+EachModeIsRead =
+    (mode a b c : ℕ) → mode < 35 → AreCandidates a b c → Reads (mode_read (a ∷ b ∷ c ∷ [])) (mode_items mode (a ∷ b ∷ c ∷ [])) mode
+
+-- a block of levels with one other than 0 (7.3.8.11)
+abbrev pub EachBlockIsRead : Type 0
+EachBlockIsRead =
+    (component log2 kind : ℕ) (block : List ℤ) → IsSide log2 → length block ≡ 2 ^ log2 * 2 ^ log2 → AreLevels block → IsTrue (cbf block) →
+    Reads (residual_read (shape component log2 kind)) (residual_items (shape component log2 kind) block) block
+
+-- a coding unit (7.3.8.5)
+abbrev pub EachLeafIsRead : Type 0
+EachLeafIsRead =
+    (kind : SliceKind) (source : Source) (before : List Leaf) (x y log2 : ℕ) (k : Kind) → IsSide log2 → IsSource source → AreModes before → IsMode k → IsAllowed kind k →
+    Reads (coding_unit_read kind before x y log2) (coding_unit_items kind source before (leaf_with x y log2 k)) (reads_of source (leaf_with x y log2 k ∷ []))
+
+-- a coding tree unit (7.3.8.2, 7.3.8.4)
+abbrev pub EachTreeIsRead : Type 0
+EachTreeIsRead =
+    (kind : SliceKind) (size : Size) (source : Source) (ctu : ℕ) (before leaves : List Leaf) → IsSource source → IsLawfulTree size ctu leaves → AreModes before → AreAllowed kind leaves →
+    Reads (ctu_read kind size before ctu) (ctu_items kind size source before leaves ctu) (reads_of source leaves)
+
+-- a row of coding tree units, with the contexts after each (7.3.8.1)
+abbrev pub EachRowIsRead : Type 0
+EachRowIsRead =
+    (kind : SliceKind) (size : Size) (source : Source) (leaves : List (List Leaf)) (row total : ℕ) →
+    row * ctus size.w + ctus size.w ≤ total → AreLawfulTrees kind size leaves total → IsSource source →
+    ReadsWith (read_row kind size row (take (row * ctus size.w) leaves)) (items_of_row kind size source leaves row)
+    (values_from kind size source leaves (row * ctus size.w) (ctus size.w))
+
+-- ---- what is written
+
+-- the leaves that are chosen are a lawful tree (7.3.8.4)
+abbrev pub EachChoiceIsLawful : Type 0
+EachChoiceIsLawful = (prev : Option Picture) (now : Picture) (size : Size) (effort ctu : ℕ) → IsLawfulTree size ctu (choice prev now size effort ctu)
+
+-- predictions are samples, so that the levels of a picture fit (8.4.4.2, 7.4.9.11)
+abbrev pub EachPictureIsSource : Type 0
+EachPictureIsSource = (size : Size) (picture : Picture) → IsPicture picture → IsSource (source_of size picture)
+
+-- the items of a row end in a terminating bin 1, and each other one has samples after it (9.3.2.5)
+abbrev pub EachRowIsWellFormed : Type 0
+EachRowIsWellFormed =
+    (kind : SliceKind) (size : Size) (source : Source) (leaves : List (List Leaf)) (row : ℕ) →
+    IsSlice kind size source leaves → row < ctus size.h → IsWellFormed (items_of_row kind size source leaves row)
+
+-- ---- slice data and pictures
+
+-- the rows of a slice, cut off by their entry points, give what was written of all leaves (7.3.8.1, 9.3.1)
+abbrev pub EachSliceIsRead : Type 0
+EachSliceIsRead =
+    (kind : SliceKind) (size : Size) (source : Source) (leaves : List (List Leaf)) → IsSlice kind size source leaves → 0 < ctus size.h →
+    (let rows : List (List ℕ) = map (row_code kind size source leaves) (below (ctus size.h)) in
+    (found : List ReadCtu) × (read_data kind size (map length (but_last (map escape rows))) (joined rows) ≡ Some found)
+    × (flat_map (λ ctu. ctu.leaves) found ≡ reads_of source (joined leaves)))
+
+-- what is read of a picture's leaves rebuilds the picture over any previous one that has the copied blocks (8.4.4.1, 8.6.1)
+abbrev pub EachPictureIsRebuilt : Type 0
+EachPictureIsRebuilt =
+    (kind : SliceKind) (size : Size) (prev now : Picture) (leaves : List (List Leaf)) →
+    IsSlice kind size (source_of size now) leaves → IsPicture now → AllByRecursion (IsCopy prev now) (joined leaves) →
+    rebuild size prev (reads_of (source_of size now) (joined leaves)) ≡ planes size now
+
+-- the conformance window gives the raster back (7.4.3.2.1)
+abbrev pub EachRasterIsCropped : Type 0
+EachRasterIsCropped =
+    (size : Size) (raster : Raster) → IsRaster size raster → 0 < size.w →
+    crop size (stored_picture size (planes size (coded_picture size raster))) ≡ raster
+
+-- ---- emulation prevention (7.3.1.1, 7.4.2.1)
+
+abbrev pub EachEscapeIsUndone : Type 0
+EachEscapeIsUndone = (list : List ℕ) → unescape (escape list) ≡ list
+
+-- a substream is cut off by its length with its emulation prevention
+abbrev pub EachSubstreamIsCut : Type 0
+EachSubstreamIsCut = (list rest : List ℕ) → substreams (length (escape list) ∷ []) (list ++ rest) ≡ Some (list ∷ rest ∷ [])
+
+-- ---- whole streams
+
+-- the stream of a list of pictures is decoded to them
+abbrev pub EachStreamIsDecoded : Type 0
+EachStreamIsDecoded =
+    (settings : Settings) (ps : List Raster) → IsTrue (is_size settings.size) → settings.effort ≤ 2 → AllByRecursion (IsRaster settings.size) ps →
+    decode (stream_of settings ps) ≡ Ok (settings.size, ps)
+
+-- the pieces of a list of pictures begin those of a longer one
+abbrev pub EachPrefixIsKept : Type 0
+EachPrefixIsKept = (settings : Settings) (ps qs : List Raster) → (rest : List (List ℕ)) × (pieces settings (ps ++ qs) ≡ pieces settings ps ++ rest)
+
+-- ---- wavefront parallel processing
+
+-- the law: however the rows of one or more CTUs are scheduled, each finishes with its bytes
+abbrev pub EachScheduleGivesTheBytes : Type 0
+EachScheduleGivesTheBytes =
+    (jobs : Jobs) (rows : ℕ) (es : List Event) → 0 < jobs.width → AreLawful (new_wave rows jobs.width) es → AllFinished (after_events (new_wave rows jobs.width) es) →
+    (results jobs rows es).finished ≡ map (λ r. Some (row_bytes jobs r)) (below rows)

@@ -1,0 +1,114 @@
+//! Laws over the definitions of `h265_model`. Each function does nothing: its clause is the law.
+#![tactic(auto)]
+
+ghost use Rattle.h265_laws.specs.Laws.{EachCodeIsRead, EachNalUnitIsRead, EachSizeIsRead, EachSizeIsSpelled, EachHeadIsRead, EachEscapeIsUndone, EachSubstreamIsCut, EachListIsReadBack, EachModeIsRead, EachBlockIsRead, EachLeafIsRead, EachTreeIsRead, EachRowIsRead, EachChoiceIsLawful, EachPictureIsSource, EachRowIsWellFormed, EachSliceIsRead, EachPictureIsRebuilt, EachRasterIsCropped, EachStreamIsDecoded, EachPrefixIsKept, EachScheduleGivesTheBytes};
+
+/// Each Exp-Golomb code is read back.
+pub fn each_code_is_read()
+    ensures { EachCodeIsRead }
+{}
+
+/// Each list of NAL units is read back.
+pub fn each_nal_unit_is_read()
+    ensures { EachNalUnitIsRead }
+{}
+
+/// Each size is read back from its parameter sets.
+pub fn each_size_is_read()
+    ensures { EachSizeIsRead }
+{}
+
+/// Nothing but its parameter sets is read as a size.
+pub fn each_size_is_spelled()
+    ensures { EachSizeIsSpelled }
+{}
+
+/// Each slice header is read back.
+pub fn each_head_is_read()
+    ensures { EachHeadIsRead }
+{}
+
+/// Bytes are read back from after their emulation prevention.
+pub fn each_escape_is_undone()
+    ensures { EachEscapeIsUndone }
+{}
+
+/// Each substream is cut off by its entry point.
+pub fn each_substream_is_cut()
+    ensures { EachSubstreamIsCut }
+{}
+
+/// What is coded is read back, whatever follows the code.
+pub fn each_list_is_read_back()
+    ensures { EachListIsReadBack }
+{}
+
+/// Each intra mode is read back.
+pub fn each_mode_is_read()
+    ensures { EachModeIsRead }
+{}
+
+/// Each block of levels is read back.
+pub fn each_block_is_read()
+    ensures { EachBlockIsRead }
+{}
+
+/// Each coding unit is read back.
+pub fn each_leaf_is_read()
+    ensures { EachLeafIsRead }
+{}
+
+/// Each coding tree unit is read back.
+pub fn each_tree_is_read()
+    ensures { EachTreeIsRead }
+{}
+
+/// Each row of coding tree units is read back, with the contexts after each of them.
+pub fn each_row_is_read()
+    ensures { EachRowIsRead }
+{}
+
+/// The leaves that are chosen are a lawful tree.
+pub fn each_choice_is_lawful()
+    ensures { EachChoiceIsLawful }
+{}
+
+/// Predictions are samples, so the levels of each picture can be written.
+pub fn each_picture_is_source()
+    ensures { EachPictureIsSource }
+{}
+
+/// The items of each row are well formed.
+pub fn each_row_is_well_formed()
+    ensures { EachRowIsWellFormed }
+{}
+
+/// The rows of each slice are read back.
+pub fn each_slice_is_read()
+    ensures { EachSliceIsRead }
+{}
+
+/// Each picture is rebuilt from what is read of its leaves.
+pub fn each_picture_is_rebuilt()
+    ensures { EachPictureIsRebuilt }
+{}
+
+/// Each raster is cut out of its coded picture.
+pub fn each_raster_is_cropped()
+    ensures { EachRasterIsCropped }
+{}
+
+/// The stream of each list of pictures is decoded to them.
+pub fn each_stream_is_decoded()
+    ensures { EachStreamIsDecoded }
+{}
+
+/// Pieces of a list of pictures begin those of a longer one.
+pub fn each_prefix_is_kept()
+    ensures { EachPrefixIsKept }
+{}
+
+/// However the rows of a wave are scheduled, each finishes with its bytes.
+pub fn each_schedule_gives_the_bytes()
+    ensures { EachScheduleGivesTheBytes }
+{}

@@ -1,0 +1,111 @@
+-- The board of rows: what its words, its slots and all row seats say of the rows.
+use Rattle.std.specs.Prelude.{◌≡◌, ◌≢◌, ℕ, zero, suc, ◌+◌, ◌^◌, ◌<◌, ◌≤◌, min, Bool, true, false, List, [], map, flat_map, find, sum_by, filter, Option, Some, None, ◌==◌, slice_index_or, IsTrue, IsFalse, IsPermutation, if◌then◌else◌}
+use Rattle.std.specs.List.{AllByRecursion, list_any}
+use Rattle.h265_model.specs.Plain.{below}
+
+-- what the laws of a row's job name, of a job as it was made: whether it was begun, its width, and the contexts after its
+-- second CTU and its bytes, by what it inherits
+pub record JobView : Type 0 where
+  pub begun : Bool
+  pub width : ℕ
+  pub second : Option (List ℕ) → List ℕ
+  pub bytes : Option (List ℕ) → List ℕ
+
+pub data Progress : Type 0 where
+  Open : Progress
+  Published : Progress
+  Lost : Progress
+
+pub record Claimed : Type 0 where
+  pub row : ℕ
+  pub progress : Progress
+  pub synced : Bool
+
+-- what a row seat knows
+pub record Seat : Type 0 where
+  pub width : ℕ
+  -- the contexts that each row hands on, and the bytes that it gives
+  pub want : List (List ℕ)
+  pub give : List (List ℕ)
+  pub rows : List Claimed
+  pub met_none : Bool
+  -- how many words it found by claims and takes, and the last of them with its number
+  pub found : ℕ
+  pub last_number : ℕ
+  pub last : ℕ
+  pub weight : ℕ
+
+-- what a row inherits
+abbrev pub row_inherits : ℕ → List (List ℕ) → ℕ → Option (List ℕ)
+row_inherits width want zero = None
+row_inherits width want (suc r) = if width == 1 then None else Some (slice_index_or want r [])
+
+-- the job is the one that the row was made for, and it wasn't begun
+pub record Fits (width : ℕ) (want give : List (List ℕ)) (row : ℕ) (job : JobView) : Type 0 where
+  pub fresh : IsFalse job.begun
+  pub same_width : job.width ≡ width
+  pub hands_on : 2 ≤ width → job.second (row_inherits width want row) ≡ slice_index_or want row []
+  pub gives : job.bytes (row_inherits width want row) ≡ slice_index_or give row []
+
+-- a slot: at home with a job, with contexts or with nothing, or with a seat
+pub data Slot : Type 0 where
+  HomeJob : JobView → Slot
+  HomeContexts : List ℕ → Slot
+  HomeEmpty : Slot
+  Away : Slot
+
+-- what the seats say of a row
+abbrev pub find_row : List Claimed → ℕ → Option Claimed
+find_row claimed row = find (λ c. c.row == row) claimed
+
+abbrev pub all_rows : List Seat → List Claimed
+all_rows seats = flat_map (λ s. s.rows) seats
+
+abbrev pub claimed_of : List Seat → ℕ → Option Claimed
+claimed_of seats row = find_row (all_rows seats) row
+
+abbrev pub has_synced : Option Claimed → Bool
+has_synced None = false
+has_synced (Some c) = c.synced
+
+abbrev pub word_of_progress : Progress → Bool → ℕ
+word_of_progress Open below_synced = 0
+word_of_progress Published below_synced = if below_synced then 2 else 1
+word_of_progress Lost below_synced = 3
+
+-- the word of a row: 0 unclaimed or open, 1 published, 2 published and taken by the row below, 3 lost
+abbrev pub word_of : Option Claimed → Bool → ℕ
+word_of None below_synced = 0
+word_of (Some c) below_synced = word_of_progress c.progress below_synced
+
+-- what stands in the slot of a row
+abbrev pub SlotOfProgress : ℕ → List (List ℕ) → ℕ → Progress → Bool → Slot → Type 0
+SlotOfProgress width want row Open below_synced slot = slot ≡ Away
+SlotOfProgress width want row Published true slot = slot ≡ Away
+SlotOfProgress width want row Published false slot = slot ≡ HomeContexts (slice_index_or want row [])
+SlotOfProgress width want row Lost below_synced slot = slot ≢ Away
+
+abbrev pub SlotOf : ℕ → List (List ℕ) → List (List ℕ) → ℕ → Option Claimed → Bool → Slot → Type 0
+SlotOf width want give row None below_synced slot = (job : JobView) × Fits width want give row job × (slot ≡ HomeJob job)
+SlotOf width want give row (Some c) below_synced slot = SlotOfProgress width want row c.progress below_synced slot
+
+abbrev pub is_published : Option Claimed → Bool
+is_published None = false
+is_published (Some c) = elim c.progress [ Published ↦ true | _ ↦ false ]
+
+-- one row, its word and its slot
+pub record RowRule (width : ℕ) (want give : List (List ℕ)) (seats : List Seat) (words : List ℕ) (slots : List Slot) (row : ℕ) : Type 0 where
+  pub word : slice_index_or words (row + 1) 0 ≡ word_of (claimed_of seats row) (has_synced (claimed_of seats (row + 1)))
+  pub slot : SlotOf width want give row (claimed_of seats row) (has_synced (claimed_of seats (row + 1))) (slice_index_or slots row Away)
+  pub above : IsTrue (has_synced (claimed_of seats (row + 1))) → IsTrue (is_published (claimed_of seats row))
+  pub synced : 0 < row → IsTrue (is_published (claimed_of seats row)) → IsTrue (has_synced (claimed_of seats row))
+
+-- The rule over the words (word 0 is that of claims), the slots and all seats that weren't joined into another.
+pub record Rule (rows width : ℕ) (want give : List (List ℕ)) (words : List ℕ) (slots : List Slot) (seats : List Seat) : Type 0 where
+  pub claimed : IsPermutation (map (λ c. c.row) (all_rows seats)) (below (min (slice_index_or words 0 0) rows))
+  pub passed : slice_index_or words 0 0 ≤ rows + sum_by (λ s. s.weight) (filter (λ s. s.met_none) seats)
+  pub met : IsTrue (list_any (λ s. s.met_none) seats) → rows ≤ slice_index_or words 0 0
+  pub lists : AllByRecursion (λ s. (s.width ≡ width) × (s.want ≡ want) × (s.give ≡ give)) seats
+  pub weighs : AllByRecursion (λ s. 1 ≤ s.weight) seats
+  pub weights : sum_by (λ s. s.weight) seats ≡ 2 ^ 32
+  pub each : (row : ℕ) → row < rows → RowRule width want give seats words slots row

@@ -1,0 +1,152 @@
+-- The arithmetic decoding engine, and readers made of it (9.3.2.5, 9.3.4.3).
+use Rattle.std.specs.Prelude.{◌≡◌, ℕ, zero, suc, ◌+◌, ◌*◌, ◌/◌, ◌-◌, ◌%◌, ◌^◌, Bool, true, false, not, List, [], ◌∷◌, length, get_or, nat_le, nat_lt, if◌then◌else◌, Option, Some, None}
+use Rattle.h265_model.specs.declared.Bin.{Bin}
+use Rattle.h265_model.specs.declared.Place.{Place}
+use Rattle.h265_model.specs.declared.Item.{Item}
+use Rattle.h265_model.specs.declared.Place.TheVariants.{Context, Bypass, Terminate}
+use Rattle.h265_model.specs.declared.Item.TheVariants as items
+use Rattle.h265_model.specs.Contexts.{lps_range, mps, step}
+use Rattle.h265_model.specs.Bits.{digit, is_empty, digits_up_to, read_u, read_alignment, ◌>>=◌ as and_then}
+
+-- ---- bytes
+
+-- the next n bytes, and the bits left
+abbrev pub read_bytes : ℕ → List Bool → Option (List ℕ × List Bool)
+read_bytes zero bits = Some ([], bits)
+read_bytes (suc n) bits =
+    and_then (read_u 8 bits) (λ first.
+    and_then (read_bytes n first.1) (λ others.
+    Some (first.0 ∷ others.0, others.1)))
+
+-- ---- the engine
+
+-- ivlCurrRange and ivlOffset, the contexts, the bit read last and the bits not read yet, which end with a byte
+pub record Engine : Type 0 where
+  pub range : ℕ
+  pub offset : ℕ
+  pub contexts : List ℕ
+  pub last : Bool
+  pub bits : List Bool
+
+-- read_bits(1) into ivlOffset: one more bit for the offset
+abbrev pub take_bit : Engine → List Bool → Option Engine
+take_bit e [] = None
+take_bit e (b ∷ bits) = Some (record e { offset = 2 * e.offset + digit b; last = b; bits = bits })
+
+-- n more bits
+abbrev pub shift_in : ℕ → Engine → Option Engine
+shift_in zero e = Some e
+shift_in (suc n) e = and_then (take_bit e e.bits) (λ d. shift_in n d)
+
+-- 9.3.2.5: the start on a row of bits. An offset of 510 or 511 isn't allowed
+unfoldable pub start : List ℕ → List Bool → Option Engine
+start contexts bits =
+    and_then (shift_in 9 (record { range = 510; offset = 0; contexts = contexts; last = false; bits = bits })) (λ e.
+    if nat_lt e.offset 510 then Some e else None)
+
+-- how often a range below 512 doubles until it has nine digits
+unfoldable pub doublings : ℕ → ℕ
+doublings range = 9 - digits_up_to 9 range
+
+-- 9.3.4.3.3: the range doubles until it is at least 256, and the offset takes a bit each time
+unfoldable pub renormalised : Engine → Option Engine
+renormalised e = shift_in (doublings e.range) (record e { range = e.range * 2 ^ doublings e.range })
+
+-- a reader gives a value and the engine after it, or nothing
+abbrev pub Reader : Type 0 → Type 0
+Reader A = Engine → Option (A × Engine)
+
+infixl 10 ◌>>=◌
+abbrev pub ◌>>=◌ : {A B : Type 0} → Reader A → (A → Reader B) → Reader B
+◌>>=◌ read f e = and_then (read e) (λ found. f found.0 found.1)
+
+abbrev pub give : {A : Type 0} → A → Reader A
+give x e = Some (x, e)
+
+abbrev pub refuse : {A : Type 0} → Reader A
+refuse e = None
+
+-- the value read, at the engine that is left
+abbrev pub with_bin : Bool → Option Engine → Option (Bool × Engine)
+with_bin value left = and_then left (λ e. Some (value, e))
+
+-- 9.3.4.3.2: a bin under context n
+unfoldable pub context_read : ℕ → Reader Bool
+context_read n e =
+    let byte : ℕ = get_or e.contexts n 0 in
+    let small : ℕ = lps_range byte (e.range / 64 % 4) in
+    let large : ℕ = e.range - small in
+    if nat_le large e.offset
+    then with_bin (not (mps byte)) (renormalised (record e { range = small; offset = e.offset - large; contexts = step e.contexts n (not (mps byte)) }))
+    else with_bin (mps byte) (renormalised (record e { range = large; contexts = step e.contexts n (mps byte) }))
+
+-- 9.3.4.3.4: a bin without a context
+unfoldable pub bypass_read : Reader Bool
+bypass_read e =
+    and_then (shift_in 1 e) (λ d.
+    if nat_le d.range d.offset then Some (true, record d { offset = d.offset - d.range }) else Some (false, d))
+
+-- 9.3.4.3.5: a bin before termination. After a 1 nothing is renormalised
+unfoldable pub terminate_read : Reader Bool
+terminate_read e =
+    let d : Engine = record e { range = e.range - 2 } in
+    if nat_le d.range d.offset then Some (true, d) else with_bin false (renormalised d)
+
+abbrev pub bin : Place → Reader Bool
+bin (Context n) = context_read n
+bin Bypass = bypass_read
+bin Terminate = terminate_read
+
+-- 9.3.2.5: after a terminating bin 1 the bit read last is a 1, and zeros follow to the byte: the bits after them
+unfoldable pub aligned : Engine → Option (List Bool)
+aligned e = read_alignment (e.last ∷ e.bits)
+
+-- 7.3.8.7: n samples of 8 bits after a terminating bin 1. The engine starts anew after them, and keeps the contexts
+unfoldable pub samples : ℕ → Reader (List ℕ)
+samples n e =
+    and_then (aligned e) (λ bits.
+    and_then (read_bytes n bits) (λ found.
+    and_then (start e.contexts found.1) (λ d.
+    Some (found.0, d))))
+
+-- after a terminating bin 1 nothing but its zeros is left
+abbrev pub at_end : Option (List Bool) → Bool
+at_end None = false
+at_end (Some bits) = is_empty bits
+
+unfoldable pub is_done : Engine → Bool
+is_done e = at_end (aligned e)
+
+-- ---- what an engine spells
+
+-- what is asked for at once: one bin, or a whole run of samples
+pub data Part : Type 0 where
+  One : Bin → Part
+  Run : List ℕ → Part
+
+abbrev pub sample_first : ℕ → List Part → List Part
+sample_first x [] = Run (x ∷ []) ∷ []
+sample_first x (One b ∷ parts) = Run (x ∷ []) ∷ One b ∷ parts
+sample_first x (Run xs ∷ parts) = Run (x ∷ xs) ∷ parts
+
+abbrev pub parts_of : List Item → List Part
+parts_of [] = []
+parts_of (items.Bin b ∷ rest) = One b ∷ parts_of rest
+parts_of (items.Sample x ∷ rest) = sample_first x (parts_of rest)
+
+-- asked for these parts in order, the engine gives them and is then the other one
+abbrev pub Gives : List Part → Engine → Engine → Type 0
+Gives [] e left = e ≡ left
+Gives (One b ∷ parts) e left = (d : Engine) × (bin b.place e ≡ Some (b.value, d)) × Gives parts d left
+Gives (Run xs ∷ parts) e left = (d : Engine) × (samples (length xs) e ≡ Some (xs, d)) × Gives parts d left
+
+abbrev pub Spells : Engine → List Item → Type 0
+Spells e list = (left : Engine) × Gives (parts_of list) e left
+
+-- the reader reads this value off every engine that spells these items, and leaves it as asking for them does
+pub record Reads {A : Type 0} (read : Reader A) (list : List Item) (value : A) : Type 0 where
+  pub from : (e left : Engine) → Gives (parts_of list) e left → read e ≡ Some (value, left)
+
+-- a reader whose value may tell of the contexts that it began with
+pub record ReadsWith {A : Type 0} (read : Reader A) (list : List Item) (value : List ℕ → A) : Type 0 where
+  pub from : (e left : Engine) → Gives (parts_of list) e left → read e ≡ Some (value e.contexts, left)

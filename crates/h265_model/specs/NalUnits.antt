@@ -1,0 +1,111 @@
+-- NAL units and the byte stream (7.3.1, 7.4.2, Annex B).
+use Rattle.std.specs.Prelude.{ℕ, zero, suc, ◌+◌, Bool, true, false, ◌||◌, ◌&&◌, List, [], ◌∷◌, ◌++◌, length, take, drop, Option, Some, None, Result, Ok, Err, ◌==◌, nat_lt, nat_le, flat_map, if◌then◌else◌, ◌≡◌, ◌≢◌, ◌<◌}
+use Rattle.std.specs.List.{last_or}
+use Rattle.h265_model.specs.Script.{◌>>-◌}
+
+-- the header's two bytes, and the bytes of the payload without emulation prevention
+pub record NalUnit : Type 0 where
+  pub header : List ℕ
+  pub rbsp : List ℕ
+
+-- the bytes before were p and then q: a 03 stands between two zeros and a byte of at most 3 (7.4.2.1)
+unfoldable pub escape_after : ℕ → ℕ → List ℕ → List ℕ
+escape_after p q [] = []
+escape_after p q (b ∷ bytes) =
+    if p == 0 && q == 0 && nat_le b 3 then 3 ∷ b ∷ escape_after 3 b bytes else b ∷ escape_after q b bytes
+
+abbrev pub escape : List ℕ → List ℕ
+escape bytes = escape_after 255 255 bytes
+
+-- the same bytes without each 03 after two zeros (7.3.1.1)
+unfoldable pub unescape_after : ℕ → ℕ → List ℕ → List ℕ
+unescape_after p q [] = []
+unescape_after p q (b ∷ bytes) =
+    if p == 0 && q == 0 && b == 3 then unescape_after q b bytes else b ∷ unescape_after q b bytes
+
+abbrev pub unescape : List ℕ → List ℕ
+unescape bytes = unescape_after 255 255 bytes
+
+-- a NAL unit after a start code of four bytes (B.2.1)
+abbrev pub start_code : List ℕ
+start_code = 0 ∷ 0 ∷ 0 ∷ 1 ∷ []
+
+abbrev pub nal_unit_bytes : NalUnit → List ℕ
+nal_unit_bytes u = start_code ++ u.header ++ escape u.rbsp
+
+unfoldable pub stream_bytes : List NalUnit → List ℕ
+stream_bytes us = flat_map nal_unit_bytes us
+
+-- ---- reading a byte stream
+
+-- nothing but zeros is left
+abbrev pub only_zeros : List ℕ → Bool
+only_zeros [] = true
+only_zeros (b ∷ bytes) = b == 0 && only_zeros bytes
+
+-- these bytes begin with two zeros and a byte of at most 1
+abbrev pub is_mark : List ℕ → Bool
+is_mark (a ∷ b ∷ c ∷ bytes) = a == 0 && b == 0 && nat_le c 1
+is_mark _ = false
+
+-- a payload ends before these bytes: at the end, before zeros up to the end, and before 00 00 00 and 00 00 01
+abbrev pub is_end : List ℕ → Bool
+is_end bytes = only_zeros bytes || is_mark bytes
+
+-- the payload at the front of these bytes
+unfoldable pub payload : List ℕ → List ℕ
+payload [] = []
+payload (b ∷ bytes) = if is_end (b ∷ bytes) then [] else b ∷ payload bytes
+
+-- where bytes that no payload may have stand: 02 after 00 00, and more than 03 after 00 00 03 (7.4.2)
+unfoldable pub forbidden : ℕ → List ℕ → Option ℕ
+forbidden at (a ∷ b ∷ c ∷ d ∷ bytes) =
+    if a == 0 && b == 0 && c == 2 then Some (at + 2)
+    else if a == 0 && b == 0 && c == 3 && nat_lt 3 d then Some (at + 3)
+    else forbidden (at + 1) (b ∷ c ∷ d ∷ bytes)
+forbidden at (a ∷ b ∷ c ∷ []) = if a == 0 && b == 0 && c == 2 then Some (at + 2) else None
+forbidden at _ = None
+
+-- a payload of at least two bytes, without those
+abbrev pub nal_unit_of : ℕ → List ℕ → Result NalUnit ℕ
+nal_unit_of at p =
+    if nat_lt (length p) 2 then Err at
+    else elim (forbidden at p) [ None ↦ Ok (record { header = take 2 p; rbsp = unescape (drop 2 p) }) | Some place ↦ Err place ]
+
+-- the bytes after the next start code and its place, none where only zeros are left, or the refused place.
+-- z zeros were read.
+unfoldable pub next_start : ℕ → ℕ → List ℕ → Result (Option (ℕ × List ℕ)) ℕ
+next_start at z [] = Ok None
+next_start at z (b ∷ bytes) =
+    if b == 0 then next_start (at + 1) (z + 1) bytes
+    else if b == 1 && nat_le 2 z then Ok (Some (at + 1, bytes))
+    else Err at
+
+-- at most n NAL units, and then nothing but zeros
+unfoldable pub units_within : ℕ → ℕ → List ℕ → Result (List NalUnit) ℕ
+units_within zero at bytes = Ok []
+units_within (suc n) at bytes =
+    next_start at 0 bytes >>- λ start.
+    elim start [
+      | None ↦ Ok []
+      | Some found ↦
+          let p : List ℕ = payload found.1 in
+          nal_unit_of found.0 p >>- λ first.
+          units_within n (found.0 + length p) (drop (length p) found.1) >>- λ others.
+          Ok (first ∷ others)
+    ]
+
+-- the NAL units of a byte stream, or the first place that the syntax refuses (B.2.1). A NAL unit takes at least five bytes.
+unfoldable pub units : List ℕ → Result (List NalUnit) ℕ
+units bytes =
+    if nat_lt 0 (length bytes) && only_zeros bytes then Err (length bytes) else units_within (length bytes) 0 bytes
+
+-- ---- NAL units that are read back
+
+-- a payload whose end can be told: it doesn't end in a zero (7.4.2)
+abbrev pub EndsWell : List ℕ → Type 0
+EndsWell list = last_or (Some 1) list ≢ Some 0
+
+pub record IsNalUnit (nal : NalUnit) : Type 0 where
+  pub header : (first second : ℕ) × (0 < second) × (nal.header ≡ first ∷ second ∷ [])
+  pub ends : EndsWell nal.rbsp

@@ -1,0 +1,74 @@
+-- The stream of a list of pictures, piece by piece.
+use Rattle.std.specs.Prelude.{ℕ, ◌+◌, ◌*◌, ◌-◌, ◌%◌, Bool, true, false, ◌||◌, ◌&&◌, List, [], ◌∷◌, ◌++◌, length, map, take, Option, Some, None, option_map, ◌==◌, nat_lt, if◌then◌else◌}
+use Rattle.h265_model.specs.Plain.{Size, SliceKind, I, P, Picture, Leaf, ctus, below, joined}
+use Rattle.h265_model.specs.Bits.{bytes}
+use Rattle.h265_model.specs.Words.{Settings}
+use Rattle.h265_model.specs.Raster.{Raster, coded_picture}
+use Rattle.h265_model.specs.NalUnits.{escape, start_code, stream_bytes}
+use Rattle.h265_model.specs.ParamSets.{param_units}
+use Rattle.h265_model.specs.SliceHead.{head_bits}
+use Rattle.h265_model.specs.Choice.{choice}
+use Rattle.h265_model.specs.Tree.{source_of}
+use Rattle.h265_model.specs.Slice.{row_code}
+
+-- picture n is an IDR picture where it is the first, or where the key divides its number
+abbrev pub is_idr : ℕ → ℕ → Bool
+is_idr key n = n == 0 || (nat_lt 0 key && n % key == 0)
+
+-- its picture order count: how many pictures it stands after the last IDR picture (8.3.1)
+abbrev pub order_count : ℕ → ℕ → ℕ
+order_count key n = if key == 0 then n else n % key
+
+abbrev pub slice_kind : Bool → SliceKind
+slice_kind true = I
+slice_kind false = P
+
+-- nal_unit_type IDR_N_LP or TRAIL_R (7.4.2.2)
+abbrev pub nal_header : Bool → List ℕ
+nal_header true = 0x28 ∷ 1 ∷ []
+nal_header false = 0x02 ∷ 1 ∷ []
+
+-- all but the last
+abbrev pub but_last : {A : Type 0} → List A → List A
+but_last xs = take (length xs - 1) xs
+
+-- the picture that a picture refers to
+abbrev pub reference : Bool → Size → Option Raster → Option Picture
+reference true size before = None
+reference false size before = option_map (coded_picture size) before
+
+-- the leaves of each CTU
+abbrev pub all_leaves : Settings → Option Picture → Picture → List (List Leaf)
+all_leaves settings before now =
+    map (choice before now settings.size settings.effort) (below (ctus settings.size.w * ctus settings.size.h))
+
+-- the rows' bytes with their emulation prevention
+abbrev pub row_codes : Settings → Bool → Option Picture → Picture → List (List ℕ)
+row_codes settings idr before now =
+    map (λ row. escape (row_code (slice_kind idr) settings.size (source_of settings.size now) (all_leaves settings before now) row)) (below (ctus settings.size.h))
+
+-- a picture's NAL unit from its rows: start code, header, slice header with entry points, rows
+unfoldable pub slice_piece : Bool → ℕ → List (List ℕ) → List ℕ
+slice_piece idr poc rows =
+    start_code ++ nal_header idr
+    ++ escape (bytes (head_bits (record { idr = idr; poc = poc; offsets = map length (but_last rows) })))
+    ++ joined rows
+
+-- the piece of picture n, after the picture before
+unfoldable pub picture_piece : Settings → ℕ → Option Raster → Raster → List ℕ
+picture_piece settings n before now =
+    let idr : Bool = is_idr settings.key n in
+    slice_piece idr (order_count settings.key n % 256)
+    (row_codes settings idr (reference idr settings.size before) (coded_picture settings.size now))
+
+unfoldable pub pieces_after : Settings → ℕ → Option Raster → List Raster → List (List ℕ)
+pieces_after settings n before [] = []
+pieces_after settings n before (now ∷ pictures) =
+    picture_piece settings n before now ∷ pieces_after settings (n + 1) (Some now) pictures
+
+-- the parameter sets, and one piece for each picture
+unfoldable pub pieces : Settings → List Raster → List (List ℕ)
+pieces settings pictures = stream_bytes (param_units settings.size) ∷ pieces_after settings 0 None pictures
+
+unfoldable pub stream_of : Settings → List Raster → List ℕ
+stream_of settings pictures = joined (pieces settings pictures)

@@ -1,0 +1,39 @@
+//! The definitions of a lossless H.265 screen recorder, and the plain types that its crates share.
+#![tactic(auto)]
+
+mod entry;
+mod lists;
+mod memory;
+mod refusal;
+mod told;
+
+pub use entry::Entry;
+pub use lists::{Bytes, History, Numbers};
+pub use memory::NoMemory;
+pub use refusal::{Cause, LimitKind};
+pub use told::Told;
+
+/// How a bin is coded (9.3.4.3).
+#[derive(Clone, Copy, Debug, PartialEq, Eq)]
+pub enum Place {
+    /// With the adaptive context of this number.
+    Context(u32),
+    /// With equal shares for 0 and 1.
+    Bypass,
+    /// With the small share that ends a run of bins.
+    Terminate,
+}
+
+/// One binary decision of the arithmetic code.
+#[derive(Clone, Copy, Debug, PartialEq, Eq)]
+pub struct Bin {
+    pub value: bool,
+    pub place: Place,
+}
+
+/// What a slice's data is made of: bins, and the samples of PCM units.
+#[derive(Clone, Copy, Debug, PartialEq, Eq)]
+pub enum Item {
+    Bin(Bin),
+    Sample(u8),
+}
