@@ -4,7 +4,10 @@ use Rattle.std.specs.Prelude.{Option, Some, None, ℤ, pos, ◌+ℤ◌, ◌-ℤ�
 use Rattle.std.specs.List.{AllByRecursion}
 use Rattle.std.proofs.lemmas.Bool.{and_parts, or_cases, ltb-true}
 use Rattle.std.proofs.lemmas.List.Folds.{list_any-append}
-use Rattle.h265_model.specs.Plain.{Size, Picture, Leaf, Kind, Skip, Pcm, Intra, coded, ctus, IsPicture}
+use Rattle.h265_model.specs.declared.leaf.Leaf.{Leaf}
+use Rattle.h265_model.specs.declared.leaf.Kind.{Kind}
+use Rattle.h265_model.specs.declared.leaf.Kind.TheVariants.{Skip, Pcm, Intra}
+use Rattle.h265_model.specs.Plain.{Size, Picture, coded, ctus, IsPicture}
 use Rattle.h265_model.specs.Contexts.{clip}
 use Rattle.h265_model.specs.Raster.{plane, planes, blank}
 use Rattle.std.proofs.lemmas.Nat.{row_fits_turned}
