@@ -15,7 +15,7 @@ use Rattle.h265_model.specs.Tree.{samples_in, leaf_side, IsCopy}
 use Rattle.h265_model.specs.Raster.{IsColour, IsRaster}
 use Rattle.h265_laws.specs.Laws.{EachRowIsWellFormed, EachSliceIsRead, EachPictureIsRebuilt, EachRasterIsCropped}
 use Rattle.h265_laws.proofs.ParamLaws.{InLimits, in_limits}
-use Rattle.h265_laws.proofs.Squares.{length_places, at_places, same_places}
+use Rattle.h265_model.proofs.Squares.{length_places, at_places, same_places}
 use Rattle.h265_laws.proofs.Coverage.{Covers, ArePlaced, CoversBlock}
 use Rattle.h265_laws.proofs.RebuildLaw.{rebuilt}
 use Rattle.h265_laws.proofs.ChoiceLaw.{IsFair, choice_is_fair}
