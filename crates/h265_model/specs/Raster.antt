@@ -93,3 +93,9 @@ pub record IsColour (c : Rgb) : Type 0 where
 pub record IsRaster (size : Size) (raster : Raster) : Type 0 where
   pub places : length raster ≡ size.w * size.h
   pub colours : AllByRecursion IsColour raster
+
+-- a line whose colours are of three bytes
+abbrev pub HasColours : Line → Type 0
+HasColours (Fill r c) = IsColour c
+HasColours (Blit r pixels) = AllByRecursion IsColour pixels
+HasColours Cut = Unit {0}
