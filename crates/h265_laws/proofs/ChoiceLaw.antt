@@ -4,7 +4,11 @@ use Rattle.std.specs.Prelude.{Option, Some, None, ◌==◌, nat_lt, nat_le, Matc
 use Rattle.std.specs.List.{AllByRecursion, list_all}
 use Rattle.std.proofs.lemmas.Bool.{and_parts, ltb-true, eqb-true}
 use Rattle.std.proofs.lemmas.List.FromFn.{get_or-map-range_with_len}
-use Rattle.h265_model.specs.Plain.{I, P, Size, Picture, Leaf, Kind, Skip, Pcm, Intra, leaf_with, below, ctu_x, ctu_y}
+use Rattle.h265_model.specs.declared.leaf.SliceKind.TheVariants.{I, P}
+use Rattle.h265_model.specs.declared.leaf.Leaf.{Leaf}
+use Rattle.h265_model.specs.declared.leaf.Kind.{Kind}
+use Rattle.h265_model.specs.declared.leaf.Kind.TheVariants.{Skip, Pcm, Intra}
+use Rattle.h265_model.specs.Plain.{Size, Picture, leaf_with, below, ctu_x, ctu_y}
 use Rattle.h265_model.specs.Predict.{is_inside}
 use Rattle.h265_model.specs.Tree.{IsTree, IsLawfulTree, IsCodingUnit, AreQuarters, IsMode, AreAllowed, AreLawfulTrees, is_skipped, is_whole, samples_in, IsCopy}
 use Rattle.h265_model.specs.Choice.{Plan, cheaper, cheapest, one_leaf, skips, best_of, leaf_plan, no_leaves, split_plan, plan, choice, is_copy, same, modes_of, intra_cost}

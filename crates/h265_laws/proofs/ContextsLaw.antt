@@ -7,7 +7,10 @@ use Rattle.h265_model.specs.declared.Place.{Place}
 use Rattle.h265_model.specs.declared.Item.{Item}
 use Rattle.h265_model.specs.declared.Place.TheVariants.{Context, Bypass, Terminate}
 use Rattle.h265_model.specs.declared.Item.TheVariants as items
-use Rattle.h265_model.specs.Plain.{SliceKind, I, P, Size, Leaf, ctus}
+use Rattle.h265_model.specs.declared.leaf.SliceKind.{SliceKind}
+use Rattle.h265_model.specs.declared.leaf.SliceKind.TheVariants.{I, P}
+use Rattle.h265_model.specs.declared.leaf.Leaf.{Leaf}
+use Rattle.h265_model.specs.Plain.{Size, ctus}
 use Rattle.h265_model.specs.Contexts.{start, next, step, row_start, AreContexts}
 use Rattle.h265_model.specs.Code.{Coding, fresh, put, coding, contexts_after}
 use Rattle.h265_model.specs.Tree.{Source, ctus_items}

@@ -3,7 +3,9 @@ use Rattle.std.proofs.Common.{◌≡◌, sym, subst, ℕ, zero, suc, ◌+◌, �
 use Rattle.std.specs.List.{AllByRecursion}
 use Rattle.std.proofs.lemmas.Bool.{cases_lt}
 use Rattle.std.proofs.lemmas.List.{get_or_past}
-use Rattle.h265_model.specs.Plain.{SliceKind, Size, Leaf, ctus, joined}
+use Rattle.h265_model.specs.declared.leaf.SliceKind.{SliceKind}
+use Rattle.h265_model.specs.declared.leaf.Leaf.{Leaf}
+use Rattle.h265_model.specs.Plain.{Size, ctus, joined}
 use Rattle.h265_model.specs.Residual.{IsSide}
 use Rattle.h265_model.specs.Tree.{AreLawfulTrees, Source}
 use Rattle.h265_model.specs.Slice.{IsSlice}

@@ -5,7 +5,8 @@ use Rattle.std.specs.List.{list_any}
 use Rattle.std.proofs.lemmas.Bool.{and_parts, and_from, or_left, or_right, cases_lt, lt-ltb, ltb-true, le-leb, leb-true}
 use Rattle.std.proofs.lemmas.List.Folds.{list_any-append}
 use Rattle.std.proofs.lemmas.Nat.{div-add-mod'}
-use Rattle.h265_model.specs.Plain.{Size, Leaf, ctus, coded, leaf_with, ctu_x, ctu_y}
+use Rattle.h265_model.specs.declared.leaf.Leaf.{Leaf}
+use Rattle.h265_model.specs.Plain.{Size, ctus, coded, leaf_with, ctu_x, ctu_y}
 use Rattle.h265_model.specs.Predict.{is_inside, coding_order}
 use Rattle.h265_model.specs.Residual.{IsSide, eight, sixteen, thirty_two}
 use Rattle.h265_model.specs.Tree.{covers, leaf_side, is_whole, IsTree, IsLawfulTree, IsCodingUnit, AreQuarters}

@@ -2,7 +2,8 @@
 use Rattle.std.specs.Prelude.{◌≡◌, ℕ, false, List, [], ◌∷◌, ◌++◌, map, codes, Ok, Some, None, unwrap_or, refl}
 use Rattle.std.specs.Fmt.{digits}
 use Rattle.h265_model.specs.Plain.{below}
-use Rattle.h265_model.specs.Lines.{Line, Fill, Blit, Cut}
+use Rattle.h265_model.specs.declared.line.Line.{Line}
+use Rattle.h265_model.specs.declared.line.Line.TheVariants.{Fill, Blit, Cut}
 use Rattle.h265_model.specs.Script.{script_of, pieces_script, line_of, colours, number_up_to}
 use Rattle.h265_model.specs.Words.{Serial, Demo, row_of}
 use Rattle.h265_model.specs.Report.{report_text}

@@ -1,7 +1,8 @@
 -- Small codes, computed.
 use Rattle.std.proofs.Common.{◌≡◌, refl, List, [], ◌∷◌, ◌++◌, true, false, replicate, take}
 use Rattle.h265_model.specs.declared.Item.{Item}
-use Rattle.h265_model.specs.Plain.{I, context_bin, bypass_bin, terminate_bin}
+use Rattle.h265_model.specs.declared.leaf.SliceKind.TheVariants.{I}
+use Rattle.h265_model.specs.Plain.{context_bin, bypass_bin, terminate_bin}
 use Rattle.h265_model.specs.Contexts.{start, lps_range, next}
 use Rattle.h265_model.specs.Engine.{doublings}
 use Rattle.h265_model.specs.Code.{code, contexts_after, closing, put_bin}

@@ -9,7 +9,12 @@ use Rattle.h265_model.specs.declared.Place.{Place}
 use Rattle.h265_model.specs.declared.Item.{Item}
 use Rattle.h265_model.specs.declared.Place.TheVariants.{Context, Bypass, Terminate}
 use Rattle.h265_model.specs.declared.Item.TheVariants as items
-use Rattle.h265_model.specs.Plain.{SliceKind, I, P, Kind, Skip, Pcm, Intra, Leaf, Size, ctus, context_bin, bypass_bin, terminate_bin, ctu_x, ctu_y, joined}
+use Rattle.h265_model.specs.declared.leaf.SliceKind.{SliceKind}
+use Rattle.h265_model.specs.declared.leaf.SliceKind.TheVariants.{I, P}
+use Rattle.h265_model.specs.declared.leaf.Kind.{Kind}
+use Rattle.h265_model.specs.declared.leaf.Kind.TheVariants.{Skip, Pcm, Intra}
+use Rattle.h265_model.specs.declared.leaf.Leaf.{Leaf}
+use Rattle.h265_model.specs.Plain.{Size, ctus, context_bin, bypass_bin, terminate_bin, ctu_x, ctu_y, joined}
 use Rattle.h265_model.specs.Contexts.{lps_range, mps, step}
 use Rattle.h265_model.specs.Engine.{doublings}
 use Rattle.h265_model.specs.Code.{Coding, bytes_of, closing, fresh, scaled, put, put_bin, coding, code}

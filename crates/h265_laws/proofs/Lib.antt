@@ -14,7 +14,6 @@ pub mod TreeLaw
 pub mod RowLaw
 pub mod ZOrder
 pub mod Coverage
-pub mod Squares
 pub mod RebuildLaw
 pub mod PredictionLaw
 pub mod ChoiceLaw

@@ -1,7 +1,12 @@
 -- Small pictures, computed.
 use Rattle.std.proofs.Common.{◌≡◌, refl, ℕ, List, [], ◌∷◌}
 use Rattle.std.specs.Prelude.{Option, Some, None, map, nat_lt, ◌==◌, ◌%◌, ◌&&◌, if◌then◌else◌}
-use Rattle.h265_model.specs.Plain.{SliceKind, I, P, Size, Picture, Leaf, Kind, Skip, Pcm, Intra, joined}
+use Rattle.h265_model.specs.declared.leaf.SliceKind.{SliceKind}
+use Rattle.h265_model.specs.declared.leaf.SliceKind.TheVariants.{I, P}
+use Rattle.h265_model.specs.declared.leaf.Leaf.{Leaf}
+use Rattle.h265_model.specs.declared.leaf.Kind.{Kind}
+use Rattle.h265_model.specs.declared.leaf.Kind.TheVariants.{Skip, Pcm, Intra}
+use Rattle.h265_model.specs.Plain.{Size, Picture, joined}
 use Rattle.h265_model.specs.Contexts.{start, lps_range, next}
 use Rattle.h265_model.specs.Engine as Engine
 use Rattle.h265_model.specs.Engine.{doublings, renormalised, bin, context_read, bypass_read, terminate_read, aligned, samples, is_done}

@@ -4,8 +4,10 @@ use Rattle.std.specs.Prelude.{Option, ◌&&◌, nat_lt, IsTrue}
 use Rattle.std.specs.List.{AllByRecursion, range_with_len}
 use Rattle.std.proofs.lemmas.Bool.{lt-ltb, and_from, cond-true}
 use Rattle.std.proofs.lemmas.Nat.{div-add-mod', div_below}
-use Rattle.h265_model.specs.Plain.{Size, Leaf, Picture, coded, ctus, place_values, IsPicture, joined}
-use Rattle.h265_model.specs.Lines.{Rgb, black}
+use Rattle.h265_model.specs.declared.leaf.Leaf.{Leaf}
+use Rattle.h265_model.specs.Plain.{Size, Picture, coded, ctus, place_values, IsPicture, joined}
+use Rattle.h265_model.specs.declared.line.Rgb.{Rgb}
+use Rattle.h265_model.specs.Lines.{black}
 use Rattle.h265_model.specs.Words.{is_size}
 use Rattle.h265_model.specs.Raster.{Raster, component, coded_picture, planes, stored_picture, crop}
 use Rattle.h265_model.specs.Choice.{choice}
@@ -13,7 +15,7 @@ use Rattle.h265_model.specs.Tree.{samples_in, leaf_side, IsCopy}
 use Rattle.h265_model.specs.Raster.{IsColour, IsRaster}
 use Rattle.h265_laws.specs.Laws.{EachRowIsWellFormed, EachSliceIsRead, EachPictureIsRebuilt, EachRasterIsCropped}
 use Rattle.h265_laws.proofs.ParamLaws.{InLimits, in_limits}
-use Rattle.h265_laws.proofs.Squares.{length_places, at_places, same_places}
+use Rattle.h265_model.proofs.Squares.{length_places, at_places, same_places}
 use Rattle.h265_laws.proofs.Coverage.{Covers, ArePlaced, CoversBlock}
 use Rattle.h265_laws.proofs.RebuildLaw.{rebuilt}
 use Rattle.h265_laws.proofs.ChoiceLaw.{IsFair, choice_is_fair}

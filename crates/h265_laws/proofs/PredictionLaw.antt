@@ -10,7 +10,7 @@ use Rattle.h265_model.specs.Contexts.{clip}
 use Rattle.h265_model.specs.Predict.{seen, neighbours, first_seen, filled, substituted, smoothed_after, smoothed, is_filtered, references, across, down, planar, has_edges, mean, dc_edge, dc, angle, inverse_angle, along, fraction, between, directed, straight_edge, is_straight, angular_from, angular, predicted, predict, prediction, is_available}
 use Rattle.h265_model.specs.Residual.{AreLevels}
 use Rattle.h265_model.specs.Tree.{source_of, IsSource, differences, samples_in, mode_of}
-use Rattle.h265_laws.proofs.Squares.{all_places}
+use Rattle.h265_model.proofs.Squares.{all_places}
 use Rattle.h265_laws.proofs.RebuildLaw.{length_prediction, length_samples, samples_are}
 
 abbrev AreSamples : List ℕ → Type 0

@@ -4,7 +4,10 @@ use Rattle.std.specs.Prelude.{Option, Some, None, ℤ, pos, ◌+ℤ◌, ◌-ℤ�
 use Rattle.std.specs.List.{AllByRecursion}
 use Rattle.std.proofs.lemmas.Bool.{and_parts, or_cases, ltb-true}
 use Rattle.std.proofs.lemmas.List.Folds.{list_any-append}
-use Rattle.h265_model.specs.Plain.{Size, Picture, Leaf, Kind, Skip, Pcm, Intra, coded, ctus, IsPicture}
+use Rattle.h265_model.specs.declared.leaf.Leaf.{Leaf}
+use Rattle.h265_model.specs.declared.leaf.Kind.{Kind}
+use Rattle.h265_model.specs.declared.leaf.Kind.TheVariants.{Skip, Pcm, Intra}
+use Rattle.h265_model.specs.Plain.{Size, Picture, coded, ctus, IsPicture}
 use Rattle.h265_model.specs.Contexts.{clip}
 use Rattle.h265_model.specs.Raster.{plane, planes, blank}
 use Rattle.std.proofs.lemmas.Nat.{row_fits_turned}
@@ -12,7 +15,7 @@ use Rattle.std.proofs.lemmas.Int.{ints}
 use Rattle.h265_model.specs.Predict.{z_order, is_inside, is_available, coding_order, seen, neighbours, references, substituted, smoothed, is_filtered, predict, prediction, predicted}
 use Rattle.h265_model.specs.Tree.{source_of, covers, leaf_side, samples_in, differences, levels_in, mode_of, content_of, read_of, reads_of, IsCopy}
 use Rattle.h265_model.specs.Rebuild.{sums, block_of, with_block, with_leaf, with_leaves, rebuild}
-use Rattle.h265_laws.proofs.Squares.{length_places, at_places, same_places, same_below, all_places}
+use Rattle.h265_model.proofs.Squares.{length_places, at_places, same_places, same_below, all_places}
 use Rattle.h265_laws.proofs.ZOrder.{IsWithin, splits, Splits}
 use Rattle.h265_laws.proofs.Coverage.{is_covered, Covers, IsPlaced, ArePlaced, covers_parts, inside_parts, inside_from, inside_column}
 use Rattle.h265_laws.proofs.TreeLaw.{leaf_back}

@@ -2,7 +2,8 @@
 use Rattle.std.proofs.Common.{◌≡◌, refl, ℕ, zero, suc, List, [], ◌∷◌, ◌++◌, true, false, replicate}
 use Rattle.std.specs.Prelude.{Option, Some, ℤ, pos, negsuc}
 use Rattle.h265_model.specs.declared.Item.{Item}
-use Rattle.h265_model.specs.Plain.{I, context_bin, bypass_bin, terminate_bin}
+use Rattle.h265_model.specs.declared.leaf.SliceKind.TheVariants.{I}
+use Rattle.h265_model.specs.Plain.{context_bin, bypass_bin, terminate_bin}
 use Rattle.h265_model.specs.Contexts.{start, lps_range, next}
 use Rattle.h265_model.specs.declared.Place.TheVariants.{Terminate}
 use Rattle.h265_model.specs.Engine as Engine

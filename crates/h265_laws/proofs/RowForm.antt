@@ -7,7 +7,12 @@ use Rattle.std.proofs.lemmas.Nat.{row_fits}
 use Rattle.h265_model.specs.declared.Item.{Item}
 use Rattle.h265_model.specs.declared.Item.TheVariants as items
 use Rattle.h265_model.specs.Bits.{digit}
-use Rattle.h265_model.specs.Plain.{SliceKind, I, P, Kind, Skip, Pcm, Intra, Leaf, Size, ctus, context_bin, terminate_bin, ctu_x, ctu_y, joined}
+use Rattle.h265_model.specs.declared.leaf.SliceKind.{SliceKind}
+use Rattle.h265_model.specs.declared.leaf.SliceKind.TheVariants.{I, P}
+use Rattle.h265_model.specs.declared.leaf.Kind.{Kind}
+use Rattle.h265_model.specs.declared.leaf.Kind.TheVariants.{Skip, Pcm, Intra}
+use Rattle.h265_model.specs.declared.leaf.Leaf.{Leaf}
+use Rattle.h265_model.specs.Plain.{Size, ctus, context_bin, terminate_bin, ctu_x, ctu_y, joined}
 use Rattle.h265_model.specs.Code.{Plain, Filled, GoesOn, IsWellFormed}
 use Rattle.h265_model.specs.Modes.{mode_items}
 use Rattle.h265_model.specs.Predict.{is_inside}

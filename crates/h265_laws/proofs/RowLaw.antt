@@ -4,7 +4,9 @@ use Rattle.std.specs.Prelude.{Some, get_or, ◌==◌}
 use Rattle.std.specs.List.{flat_map, range_with_len}
 use Rattle.h265_model.specs.declared.Item.{Item}
 use Rattle.h265_model.specs.declared.Place.TheVariants.{Terminate}
-use Rattle.h265_model.specs.Plain.{SliceKind, Leaf, Size, ctus, below, terminate_bin, joined}
+use Rattle.h265_model.specs.declared.leaf.SliceKind.{SliceKind}
+use Rattle.h265_model.specs.declared.leaf.Leaf.{Leaf}
+use Rattle.h265_model.specs.Plain.{Size, ctus, below, terminate_bin, joined}
 use Rattle.h265_model.specs.Engine.{Engine, Part, parts_of, Gives, Reader, ◌>>=◌, give, refuse, Reads, ReadsWith}
 use Rattle.std.specs.Bool.{beq}
 use Rattle.h265_model.specs.Code.{contexts_after, put_bin}

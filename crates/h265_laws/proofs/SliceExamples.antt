@@ -1,6 +1,10 @@
 -- Rows of slice data with their contexts, computed.
 use Rattle.std.specs.Prelude.{◌≡◌, ℕ, true, false, List, [], ◌∷◌, length, map, flat_map, Some, None, Option, option_map, refl}
-use Rattle.h265_model.specs.Plain.{Size, SliceKind, I, P, Leaf, Pcm, Picture, below, ctus}
+use Rattle.h265_model.specs.declared.leaf.SliceKind.{SliceKind}
+use Rattle.h265_model.specs.declared.leaf.SliceKind.TheVariants.{I, P}
+use Rattle.h265_model.specs.declared.leaf.Leaf.{Leaf}
+use Rattle.h265_model.specs.declared.leaf.Kind.TheVariants.{Pcm}
+use Rattle.h265_model.specs.Plain.{Size, Picture, below, ctus}
 use Rattle.h265_model.specs.Words.{Settings}
 use Rattle.h265_model.specs.Tree.{Source}
 use Rattle.h265_model.specs.Slice.{row_code, read_data, leaves_of}

@@ -5,7 +5,9 @@ use Rattle.std.specs.List.{flat_map, range_with_len}
 use Rattle.std.proofs.lemmas.Bool.{leb-true}
 use Rattle.std.proofs.lemmas.Nat.{row_fits}
 use Rattle.h265_model.specs.declared.Item.{Item}
-use Rattle.h265_model.specs.Plain.{SliceKind, Size, Leaf, ctus, below, terminate_bin, joined}
+use Rattle.h265_model.specs.declared.leaf.SliceKind.{SliceKind}
+use Rattle.h265_model.specs.declared.leaf.Leaf.{Leaf}
+use Rattle.h265_model.specs.Plain.{Size, ctus, below, terminate_bin, joined}
 use Rattle.h265_model.specs.Bits.{bits, ◌>>=◌}
 use Rattle.h265_model.specs.Engine.{Engine, start, is_done, at_end, aligned}
 use Rattle.std.proofs.lemmas.Grind.{flat_map-append}

@@ -1,7 +1,10 @@
 -- Streams of small pictures, computed.
 use Rattle.std.specs.Prelude.{◌≡◌, ℕ, List, [], ◌∷◌, length, replicate, drop, Ok, None, refl}
-use Rattle.h265_model.specs.Plain.{Size, Pcm, Intra}
-use Rattle.h265_model.specs.Lines.{Line, Fill, Rgb}
+use Rattle.h265_model.specs.declared.leaf.Kind.TheVariants.{Pcm, Intra}
+use Rattle.h265_model.specs.Plain.{Size}
+use Rattle.h265_model.specs.declared.line.Line.{Line}
+use Rattle.h265_model.specs.declared.line.Line.TheVariants.{Fill}
+use Rattle.h265_model.specs.declared.line.Rgb.{Rgb}
 use Rattle.h265_model.specs.Words.{Settings}
 use Rattle.h265_model.specs.Bits.{digits_up_to, u, ue, value_after, bytes, read_u, read_ue_after, read_alignment}
 use Rattle.h265_model.specs.Choice.{intra_cost, pcm_cost, is_copy, modes_of, leaf_plan, choice}

@@ -8,7 +8,10 @@ use Rattle.std.proofs.lemmas.Nat.{div-add-mod', mod-mul-add}
 use Rattle.std.proofs.lemmas.List.{length-map}
 use Rattle.std.proofs.lemmas.List.FromFn.{length-map-range_with_len}
 use Rattle.std.proofs.lemmas.Grind.{flat_map-append}
-use Rattle.h265_model.specs.Plain.{SliceKind, P, Size, Leaf, Picture, ctus, below, joined}
+use Rattle.h265_model.specs.declared.leaf.SliceKind.{SliceKind}
+use Rattle.h265_model.specs.declared.leaf.SliceKind.TheVariants.{P}
+use Rattle.h265_model.specs.declared.leaf.Leaf.{Leaf}
+use Rattle.h265_model.specs.Plain.{Size, Picture, ctus, below, joined}
 use Rattle.h265_model.specs.Bits.{bytes, ◌>>=◌}
 use Rattle.h265_model.specs.Script.{◌>>-◌}
 use Rattle.h265_model.specs.Words.{Settings}

@@ -7,7 +7,12 @@ use Rattle.h265_model.specs.declared.Place.{Place}
 use Rattle.h265_model.specs.declared.Item.{Item}
 use Rattle.h265_model.specs.declared.Place.TheVariants.{Context, Terminate}
 use Rattle.h265_model.specs.declared.Item.TheVariants as items
-use Rattle.h265_model.specs.Plain.{SliceKind, I, P, Kind, Skip, Pcm, Intra, Leaf, Size, context_bin, leaf_with, ctu_x, ctu_y}
+use Rattle.h265_model.specs.declared.leaf.SliceKind.{SliceKind}
+use Rattle.h265_model.specs.declared.leaf.SliceKind.TheVariants.{I, P}
+use Rattle.h265_model.specs.declared.leaf.Kind.{Kind}
+use Rattle.h265_model.specs.declared.leaf.Kind.TheVariants.{Skip, Pcm, Intra}
+use Rattle.h265_model.specs.declared.leaf.Leaf.{Leaf}
+use Rattle.h265_model.specs.Plain.{Size, context_bin, leaf_with, ctu_x, ctu_y}
 use Rattle.h265_model.specs.Engine.{Engine, bin, samples, Part, Run, sample_first, parts_of, Gives, Reader, ◌>>=◌, give, refuse, Reads}
 use Rattle.h265_model.specs.Residual.{cbf, residual_items, residual_read, IsSide, eight, sixteen, thirty_two, AreLevels}
 use Rattle.h265_model.specs.Binarise.{tr, fl, bypass_bins}

@@ -12,7 +12,10 @@ use Rattle.h265_model.specs.Code.{code, contexts_after, IsWellFormed}
 use Rattle.h265_model.specs.Contexts.{AreContexts}
 use Rattle.h265_model.specs.Stream.{pieces, stream_of, but_last}
 use Rattle.h265_model.specs.Decode.{decode}
-use Rattle.h265_model.specs.Plain.{Size, SliceKind, Kind, Leaf, ctus, leaf_with, Picture, IsPicture, below, joined, AreBytes}
+use Rattle.h265_model.specs.declared.leaf.SliceKind.{SliceKind}
+use Rattle.h265_model.specs.declared.leaf.Kind.{Kind}
+use Rattle.h265_model.specs.declared.leaf.Leaf.{Leaf}
+use Rattle.h265_model.specs.Plain.{Size, ctus, leaf_with, Picture, IsPicture, below, joined, AreBytes}
 use Rattle.h265_model.specs.NalUnits.{NalUnit, stream_bytes, units, escape, unescape, IsNalUnit}
 use Rattle.h265_model.specs.Modes.{AreCandidates, mode_read, mode_items}
 use Rattle.h265_model.specs.Residual.{IsSide, AreLevels, cbf, shape, residual_read, residual_items}

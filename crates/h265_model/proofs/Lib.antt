@@ -4,3 +4,4 @@ pub mod ByteLaws
 pub mod UnitLaws
 pub mod FieldLaws
 pub mod SyntaxLaws
+pub mod Squares

@@ -2,7 +2,8 @@
 use Rattle.std.specs.Prelude.{◌≡◌, ℕ, zero, suc, ◌+◌, ◌*◌, ◌/◌, ◌-◌, ◌%◌, ◌^◌, ◌<◌, min, max, Bool, List, [], length, map, get_or, set, ◌==◌, nat_le, if◌then◌else◌, ℤ, pos, negsuc, ◌+ℤ◌, ◌-ℤ◌, ◌*ℤ◌}
 use Rattle.std.specs.List.{AllByRecursion}
 use Rattle.std.specs.Bool.{beq}
-use Rattle.h265_model.specs.Plain.{SliceKind, I, P}
+use Rattle.h265_model.specs.declared.leaf.SliceKind.{SliceKind}
+use Rattle.h265_model.specs.declared.leaf.SliceKind.TheVariants.{I, P}
 use Rattle.h265_model.specs.Tables.{lps_ranges, states_after_lps, init_values_I, init_values_P}
 use Rattle.h265_model.specs.Bits.{digit}
 

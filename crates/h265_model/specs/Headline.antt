@@ -5,7 +5,7 @@ use Rattle.h265_model.specs.declared.entry.Entry.{Entry}
 use Rattle.h265_model.specs.declared.refusal.Cause.{Cause}
 use Rattle.h265_model.specs.declared.refusal.LimitKind.{LimitKind}
 use Rattle.h265_model.specs.declared.refusal.LimitKind.TheVariants.{Lines, Cuts}
-use Rattle.h265_model.specs.Lines.{Line}
+use Rattle.h265_model.specs.declared.line.Line.{Line}
 use Rattle.h265_model.specs.Script.{BadLine, script_of, is_cut, ◌>>-◌}
 use Rattle.h265_model.specs.Words.{Settings}
 use Rattle.h265_model.specs.Raster.{Raster}

@@ -3,7 +3,7 @@ use Rattle.std.specs.Prelude.{◌≡◌, ℕ, ◌<◌, ◌≤◌, not, List, [],
 use Rattle.std.specs.List.{range_with_len}
 use Rattle.h265_model.specs.declared.entry.Entry.{Entry}
 use Rattle.h265_model.specs.declared.entry.Entry.TheVariants as entry
-use Rattle.h265_model.specs.Lines.{Line}
+use Rattle.h265_model.specs.declared.line.Line.{Line}
 use Rattle.h265_model.specs.Script.{is_cut}
 use Rattle.h265_model.specs.Raster.{lines_of}
 

@@ -4,24 +4,8 @@ use Rattle.std.specs.List.{range_with_len, AllByRecursion}
 use Rattle.h265_model.specs.declared.Item.{Item}
 use Rattle.h265_model.specs.declared.Place.TheVariants.{Context, Bypass, Terminate}
 use Rattle.h265_model.specs.declared.Item.TheVariants as items
-
--- 7.4.7.1, slice_type: the two kinds of slice that occur
-pub data SliceKind : Type 0 where
-  I : SliceKind
-  P : SliceKind
-
--- 7.3.8.5: what is coded of a coding unit: a copy of the picture before, samples, or a residual under an intra mode
-pub data Kind : Type 0 where
-  Skip : Kind
-  Pcm : Kind
-  Intra : ℕ → Kind
-
--- a coding unit: where its block begins, the base-2 logarithm of its side, and its kind
-pub record Leaf : Type 0 where
-  pub x : ℕ
-  pub y : ℕ
-  pub log2 : ℕ
-  pub kind : Kind
+use Rattle.h265_model.specs.declared.leaf.Kind.{Kind}
+use Rattle.h265_model.specs.declared.leaf.Leaf.{Leaf}
 
 -- the width and height of the desktop
 pub record Size : Type 0 where

@@ -4,7 +4,11 @@ use Rattle.std.specs.List.{AllByRecursion}
 use Rattle.h265_model.specs.declared.entry.Entry.{Entry}
 use Rattle.h265_model.specs.declared.entry.Entry.TheVariants as entry
 use Rattle.h265_model.specs.Plain.{Size, Picture, coded, place_values}
-use Rattle.h265_model.specs.Lines.{Rect, Rgb, Line, Fill, Blit, Cut, black}
+use Rattle.h265_model.specs.declared.line.Rect.{Rect}
+use Rattle.h265_model.specs.declared.line.Rgb.{Rgb}
+use Rattle.h265_model.specs.declared.line.Line.{Line}
+use Rattle.h265_model.specs.declared.line.Line.TheVariants.{Fill, Blit, Cut}
+use Rattle.h265_model.specs.Lines.{black}
 
 abbrev pub paints : Rect → ℕ → ℕ → Bool
 paints r x y = nat_le r.x x && nat_lt x (r.x + r.w) && nat_le r.y y && nat_lt y (r.y + r.h)

@@ -1,6 +1,7 @@
 -- The samples of a picture from what was read of it (8.4.4.1, 8.6.1, 8.6.8).
 use Rattle.std.specs.Prelude.{ℕ, ◌+◌, ◌*◌, ◌-◌, List, [], ◌∷◌, get_or, if◌then◌else◌, ℤ, pos, ◌+ℤ◌}
-use Rattle.h265_model.specs.Plain.{Size, Picture, Leaf}
+use Rattle.h265_model.specs.declared.leaf.Leaf.{Leaf}
+use Rattle.h265_model.specs.Plain.{Size, Picture}
 use Rattle.h265_model.specs.Contexts.{clip}
 use Rattle.h265_model.specs.Predict.{prediction}
 use Rattle.h265_model.specs.Tree.{ReadLeaf, Content, Copied, Samples, Levels, leaf_of, leaf_side, covers, samples_in}

@@ -5,7 +5,10 @@ use Rattle.std.specs.Str.Parse.{digits_value}
 use Rattle.h265_model.specs.declared.refusal.Cause.{Cause}
 use Rattle.h265_model.specs.declared.refusal.Cause.TheVariants.{NoLineFeed, UnknownCommand, WordCount, BadNumber, ZeroSize, TooManyPixels, BadColour}
 use Rattle.h265_model.specs.Bits.{◌>>=◌}
-use Rattle.h265_model.specs.Lines.{Rect, Rgb, Line, Fill, Blit, Cut}
+use Rattle.h265_model.specs.declared.line.Rect.{Rect}
+use Rattle.h265_model.specs.declared.line.Rgb.{Rgb}
+use Rattle.h265_model.specs.declared.line.Line.{Line}
+use Rattle.h265_model.specs.declared.line.Line.TheVariants.{Fill, Blit, Cut}
 
 -- the limits on a number, and on the pixels of a blit
 abbrev pub most_number : ℕ

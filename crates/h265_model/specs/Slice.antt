@@ -1,6 +1,8 @@
 -- The slice segment data of a picture, row by row (7.3.8.1, 9.3.1, 9.3.2).
 use Rattle.std.specs.Prelude.{ℕ, zero, suc, ◌+◌, ◌&&◌, List, [], ◌∷◌, ◌++◌, map, Option, Some, None, ◌==◌, nat_le, if◌then◌else◌, ◌<◌, ◌≡◌, ◌*◌, length}
-use Rattle.h265_model.specs.Plain.{Size, SliceKind, Leaf, ctus}
+use Rattle.h265_model.specs.declared.leaf.SliceKind.{SliceKind}
+use Rattle.h265_model.specs.declared.leaf.Leaf.{Leaf}
+use Rattle.h265_model.specs.Plain.{Size, ctus}
 use Rattle.h265_model.specs.Bits.{◌>>=◌, bits}
 use Rattle.h265_model.specs.Engine.{start, is_done}
 use Rattle.h265_model.specs.Contexts.{row_start}

@@ -1,6 +1,9 @@
 -- The stream of a list of pictures, piece by piece.
 use Rattle.std.specs.Prelude.{ℕ, ◌+◌, ◌*◌, ◌-◌, ◌%◌, Bool, true, false, ◌||◌, ◌&&◌, List, [], ◌∷◌, ◌++◌, length, map, take, Option, Some, None, option_map, ◌==◌, nat_lt, if◌then◌else◌}
-use Rattle.h265_model.specs.Plain.{Size, SliceKind, I, P, Picture, Leaf, ctus, below, joined}
+use Rattle.h265_model.specs.declared.leaf.SliceKind.{SliceKind}
+use Rattle.h265_model.specs.declared.leaf.SliceKind.TheVariants.{I, P}
+use Rattle.h265_model.specs.declared.leaf.Leaf.{Leaf}
+use Rattle.h265_model.specs.Plain.{Size, Picture, ctus, below, joined}
 use Rattle.h265_model.specs.Bits.{bytes}
 use Rattle.h265_model.specs.Words.{Settings}
 use Rattle.h265_model.specs.Raster.{Raster, coded_picture}

@@ -6,7 +6,12 @@ use Rattle.h265_model.specs.declared.Place.{Place}
 use Rattle.h265_model.specs.declared.Place.TheVariants.{Context, Terminate}
 use Rattle.h265_model.specs.declared.Item.{Item}
 use Rattle.h265_model.specs.declared.Item.TheVariants as items
-use Rattle.h265_model.specs.Plain.{SliceKind, I, P, Kind, Skip, Pcm, Intra, Leaf, Size, Picture, coded, ctus, below, context_bin, terminate_bin, joined, ctu_x, ctu_y}
+use Rattle.h265_model.specs.declared.leaf.SliceKind.{SliceKind}
+use Rattle.h265_model.specs.declared.leaf.SliceKind.TheVariants.{I, P}
+use Rattle.h265_model.specs.declared.leaf.Kind.{Kind}
+use Rattle.h265_model.specs.declared.leaf.Kind.TheVariants.{Skip, Pcm, Intra}
+use Rattle.h265_model.specs.declared.leaf.Leaf.{Leaf}
+use Rattle.h265_model.specs.Plain.{Size, Picture, coded, ctus, below, context_bin, terminate_bin, joined, ctu_x, ctu_y}
 use Rattle.h265_model.specs.Engine.{Reader, ◌>>=◌, give, refuse, bin, samples}
 use Rattle.h265_model.specs.Residual.{Shape, scan_kind, cbf, residual_items, residual_read, AreLevels}
 use Rattle.h265_model.specs.Modes.{candidates, mode_items, mode_read}

@@ -2,12 +2,16 @@
 #![tactic(auto)]
 
 mod entry;
+mod leaf;
+mod line;
 mod lists;
 mod memory;
 mod refusal;
 mod told;
 
 pub use entry::Entry;
+pub use leaf::{Kind, Leaf, SliceKind};
+pub use line::{Job, Line, Pixels, Rect, Rgb};
 pub use lists::{Bytes, History, Numbers};
 pub use memory::NoMemory;
 pub use refusal::{Cause, LimitKind};

@@ -1,0 +1,28 @@
+//! Coding units and the slices that they stand in.
+
+/// The kinds of slice that occur (7.4.7.1, slice_type).
+#[derive(Clone, Copy, Debug, PartialEq, Eq)]
+pub enum SliceKind {
+    I,
+    P,
+}
+
+/// What is coded of a coding unit (7.3.8.5).
+#[derive(Clone, Copy, Debug, PartialEq, Eq)]
+pub enum Kind {
+    /// A copy of the same block of the picture before.
+    Skip,
+    /// The samples themselves.
+    Pcm,
+    /// A residual under an intra mode, from 0 to 34 (8.4.2).
+    Intra(u32),
+}
+
+/// A coding unit: where its block begins, in samples, the base-2 logarithm of its side (3, 4 or 5), and its kind.
+#[derive(Clone, Copy, Debug, PartialEq, Eq)]
+pub struct Leaf {
+    pub x: u32,
+    pub y: u32,
+    pub log2: u32,
+    pub kind: Kind,
+}
