@@ -77,8 +77,8 @@ impl Picture {
         Size::within(self.w, self.h)
     }
 
-    // The plane of a component.
-    fn plane(&self, component: u32) -> &[u8]
+    /// The plane of a component (0 for G, 1 for B, 2 for R): the samples of the coded size, in rows from the top.
+    pub fn plane(&self, component: u32) -> &[u8]
         requires { component < 3 }
         ensures plane { result.now ≡ plane_of self.now component }
         ensures area { length result.now ≡ coded self.now.size.w * coded self.now.size.h }
