@@ -9,21 +9,21 @@ use Rattle.h265_model.specs.declared.leaf.Leaf.{Leaf}
 use Rattle.h265_model.specs.Plain.{Size, Picture, leaf_with, terminate_bin, context_bin}
 use Rattle.h265_model.specs.Choice.{choice, leaf_plan, modes_of, pcm_cost, intra_cost, is_copy}
 use Rattle.h265_model.specs.Words.{Settings}
-use Rattle.h265_model.specs.Raster.{Raster, plane, coded_picture}
+use Rattle.h265_model.specs.Raster.{Raster, plane, planes, coded_picture}
 use Rattle.h265_model.specs.NalUnits.{NalUnit, escape, escape_after, nal_unit_bytes}
 use Rattle.h265_model.specs.Fields.{fields_bits}
 use Rattle.h265_model.specs.SliceHead.{head_bits, head_front, head_middle}
 use Rattle.h265_model.specs.Stream.{is_idr, row_codes, reference, slice_piece, picture_piece}
 use Rattle.h265_model.proofs.Squares.{same_places}
+use Rattle.h265_laws.proofs.LengthLaw.{escape_length}
+use Rattle.px_plane.specs.Planes.{Planes, Shows, planes_of}
+use Rattle.screenrec.specs.Built.{one_ctu, built, pcm_payload, pcm_unit}
 use Rattle.h265_model.specs.Tree.{Source, source_of, items_of_row, ctu_items, split_context, coding_unit_items}
 use Rattle.h265_model.specs.Code.{Coding, coding, fresh, code, closing, put_bin}
 use Rattle.h265_model.specs.Contexts.{start, next, lps_range, row_start}
 use Rattle.h265_model.specs.Slice.{contexts_at, row_code}
 use Rattle.h265_model.specs.Bits.{digits_up_to, bytes, u, ue, value_after}
 use Rattle.h265_model.specs.Engine.{doublings}
-
-abbrev pub one_ctu : Size
-one_ctu = record { w = 32; h = 32 }
 
 abbrev pub pcm_leaf : Leaf
 pcm_leaf = leaf_with 0 0 5 Pcm
@@ -80,10 +80,6 @@ pcm_row source = ap (λ (l : List Item). code l (start I)) (row_is source) ∙ p
 
 -- ---- the piece of a picture
 
--- the settings that are built
-abbrev pub built : Settings
-built = record { size = one_ctu; effort = 0; key = 1 }
-
 mod_one : (n : ℕ) → n % 1 ≡ 0
 mod_one n = omega arith
 
@@ -100,13 +96,6 @@ unfolding source_of
 unit_plane picture c =
     same_places 32 32 (λ x y. picture c (0 + x) (0 + y)) (picture c)
     (λ x y p q. ap (λ (a : ℕ). picture c a (0 + y)) (zero-add x) ∙ ap (λ (b : ℕ). picture c x b) (zero-add y))
-
--- the payload of such a picture of these planes: the slice header, one row and its end
-abbrev pub pcm_payload : List ℕ → List ℕ → List ℕ → List ℕ
-pcm_payload g b r = 0xAF ∷ 0x80 ∷ 0x46 ∷ 0xC0 ∷ (g ++ b ++ r) ++ 0xFE ∷ 0x80 ∷ []
-
-abbrev pub pcm_unit : List ℕ → List ℕ → List ℕ → NalUnit
-pcm_unit g b r = record { header = 0x28 ∷ 1 ∷ []; rbsp = pcm_payload g b r }
 
 samples_are : (picture : Picture) → unit_samples (source_of one_ctu picture) ≡ plane one_ctu picture 0 ++ plane one_ctu picture 1 ++ plane one_ctu picture 2
 samples_are picture =
@@ -144,3 +133,18 @@ pcm_piece n before now =
     ∙ (ap (λ (poc : ℕ). slice_piece true poc (row_codes built true None picture)) count
     ∙ (ap (slice_piece true 0) (row_codes_are picture)
     ∙ one_row (plane one_ctu picture 0 ++ plane one_ctu picture 1 ++ plane one_ctu picture 2)))
+
+-- the piece of a picture that shows a raster
+pub pcm_piece-shown : (p : Planes) (n : ℕ) (before : Option Raster) (now : Raster) → p.size ≡ one_ctu → Shows p now →
+    nal_unit_bytes (pcm_unit p.g p.b p.r) ≡ picture_piece built n before now
+pcm_piece-shown p n before now sized shows =
+    let stored : planes_of p ≡ planes one_ctu (coded_picture one_ctu now) = shows.stored ∙ ap (λ (s : Size). planes s (coded_picture s now)) sized in
+    let g : p.g ≡ plane one_ctu (coded_picture one_ctu now) 0 = cc in
+    let b : p.b ≡ plane one_ctu (coded_picture one_ctu now) 1 = cc in
+    let r : p.r ≡ plane one_ctu (coded_picture one_ctu now) 2 = cc in
+    let same : nal_unit_bytes (pcm_unit p.g p.b p.r)
+        ≡ nal_unit_bytes (pcm_unit (plane one_ctu (coded_picture one_ctu now) 0) (plane one_ctu (coded_picture one_ctu now) 1) (plane one_ctu (coded_picture one_ctu now) 2)) = cc in
+    same ∙ sym (pcm_piece n before now)
+
+pub pcm_unit-short : (g b r : List ℕ) → length (pcm_payload g b r) ≡ 3078 → length (nal_unit_bytes (pcm_unit g b r)) ≤ 8192
+pcm_unit-short g b r long = omega (arith, escape_length 255 255 (pcm_payload g b r))

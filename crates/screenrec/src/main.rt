@@ -2,6 +2,8 @@
 #![tactic(auto)]
 
 mod outcome;
+mod pcm_picture;
+mod stream_file;
 
 pub use outcome::{Form, Outcome, Status};
 
