@@ -3,3 +3,4 @@ pub mod Places
 pub mod Rows
 pub mod Shown
 pub mod Painted
+pub mod Tiles

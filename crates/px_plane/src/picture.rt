@@ -1,15 +1,17 @@
 //! Pictures of three planes.
-ghost use Rattle.std.specs.Prelude.{◌≡◌, ℕ, ◌+◌, ◌*◌, ◌<◌, ◌≤◌, map, length, slice_index, IfOk, IfSome, IsNone, IsTrue, false, List, ◌++◌, ◌∷◌, []};
-ghost use Rattle.h265_model.specs.Plain.{coded, below};
+ghost use Rattle.std.specs.Prelude.{◌≡◌, ℕ, ◌+◌, ◌*◌, ◌<◌, ◌≤◌, map, length, IfOk, IfSome, IsNone, IsTrue, false, List, ◌++◌, ◌∷◌, []};
+ghost use Rattle.h265_model.specs.Plain.{coded, ctus, below};
 ghost use Rattle.h265_model.specs.Words.{is_size};
 ghost use Rattle.h265_model.specs.declared.line.Line.{Line};
-ghost use Rattle.h265_model.specs.Raster.{component};
-ghost use Rattle.px_plane.specs.Planes.{black, picture_of, plane_of, covers, filled, IsPicture, Stores, ShowsLines};
-ghost use Rattle.px_plane.specs.Rows.{IsWithin, IsPartOf, IsPutInto};
+ghost use Rattle.h265_model.specs.Raster.{Raster, component, coded_picture};
+ghost use Rattle.h265_model.specs.Desk.{tile_count, job_for};
+ghost use Rattle.px_plane.specs.Planes.{black, picture_of, plane_of, covers, filled, blitted, pixel_at, IsPicture, Stores, Shows, ShowsLines};
+ghost use Rattle.px_plane.specs.Tiles.{laid, IsJobOf, DiffersOnlyIn, IsTilePart, IsTileLaid};
+ghost use Rattle.px_plane.specs.Rows.{IsWithin, IsPartOf, IsPutInto, sample_at};
 
 use crate::clip::Clip;
-use crate::plane::{Sides, fill_plane};
-use crate::{Rect, Rgb, Size};
+use crate::plane::{Sides, blit_plane, fill_plane, lay_plane};
+use crate::{Job, Rect, Rgb, Size};
 use h265_model::NoMemory;
 use std::alloc::Global;
 use std::marker::Model;
@@ -162,6 +164,99 @@ impl Picture {
     {
         if let Some(part) = self.part(rect) {
             self.fill_part(part, colour);
+        }
+    }
+
+    // Puts the pixels of a rectangle into the part that it covers.
+    fn blit_part(&mut self, part: Sides, rect: Rect, pixels: &[Rgb])
+        requires part { IsPartOf self.old.size rect part }
+        requires pixels { length pixels.now ≡ rect.w * rect.h }
+        ensures { IsPutInto self.old self.new part (λ c x y. component c (pixel_at rect pixels.now x y)) }
+    {
+        let stride = coded_side(self.w) as usize;
+        blit_plane(&mut self.g, stride, part, rect, pixels, 0);
+        blit_plane(&mut self.b, stride, part, rect, pixels, 1);
+        blit_plane(&mut self.r, stride, part, rect, pixels, 2);
+    }
+
+    /// Paints the part of a rectangle that lies in the desktop with pixels.
+    ///
+    /// The pixels are those of the whole rectangle, in rows from the top.
+    pub fn blit(&mut self, rect: Rect, pixels: &[Rgb])
+        requires { length pixels.now ≡ rect.w * rect.h }
+        ensures size { self.new.size ≡ self.old.size }
+        ensures painted { Stores self.new (blitted self.old rect pixels.now) }
+        ensures shows { (lines : List Line) → ShowsLines self.old lines → ShowsLines self.new (lines ++ Line.Blit rect pixels.now ∷ []) }
+    {
+        if let Some(part) = self.part(rect) {
+            self.blit_part(part, rect, pixels);
+        }
+    }
+
+    // How many tiles stand side by side.
+    fn tiles_across(&self) -> u32
+        ensures value { result ≡ ctus self.now.size.w }
+        ensures whole { IsPicture self.now }
+    {
+        (self.w + 31) / 32
+    }
+
+    // The part of the coded picture that lies in a tile, where `across` tiles stand side by side.
+    fn tile_part(&self, tile: u32, across: u32) -> Sides
+        requires across { across ≡ ctus self.now.size.w }
+        requires tile { tile < tile_count self.now.size }
+        ensures { IsTilePart self.now.size tile result }
+    {
+        let left = (tile % across) as usize * 32;
+        let top = (tile / across) as usize * 32;
+        Sides {
+            left,
+            right: (left + 32).min(coded_side(self.w) as usize),
+            top,
+            bottom: (top + 32).min(coded_side(self.h) as usize),
+        }
+    }
+
+    // Puts the samples of a tile into the part that lies in it.
+    fn lay_part(&mut self, part: Sides, samples: &[u8])
+        requires within { IsWithin self.old.size part }
+        requires narrow { part.right ≤ part.left + 32 }
+        requires low { part.bottom ≤ part.top + 32 }
+        requires samples { length samples.now ≡ 3072 }
+        ensures { IsPutInto self.old self.new part (sample_at part samples.now) }
+    {
+        let stride = coded_side(self.w) as usize;
+        lay_plane(&mut self.g, stride, part, samples, 0);
+        lay_plane(&mut self.b, stride, part, samples, 1);
+        lay_plane(&mut self.r, stride, part, samples, 2);
+    }
+
+    // Lays one tile, where `across` tiles stand side by side.
+    fn lay_tile(&mut self, tile: u32, across: u32, samples: &[u8])
+        requires across { across ≡ ctus self.old.size.w }
+        requires tile { tile < tile_count self.old.size }
+        requires samples { length samples.now ≡ 3072 }
+        ensures { IsTileLaid self.old self.new tile samples.now }
+    {
+        let part = self.tile_part(tile, across);
+        self.lay_part(part, samples);
+    }
+
+    /// Puts each listed tile of a job in its place.
+    ///
+    /// What a tile has outside the coded picture is dropped.
+    pub fn lay(&mut self, job: &Job)
+        requires { IsJobOf self.old.size job.now }
+        ensures size { self.new.size ≡ self.old.size }
+        ensures laid { Stores self.new (laid self.old job.now) }
+        ensures shows { (shown : Raster) → job.now ≡ job_for self.old.size job.now.number job.now.tiles shown
+            → DiffersOnlyIn job.now.tiles self.old (coded_picture self.old.size shown) → Shows self.new shown }
+    {
+        let (tiles, samples) = (job.tiles.as_slice(), job.samples.as_slice());
+        let across = self.tiles_across();
+        for k in 0..tiles.len() {
+            let at = k * 3072;
+            self.lay_tile(tiles[k], across, &samples[at..at + 3072]);
         }
     }
 }
