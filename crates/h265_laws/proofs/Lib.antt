@@ -3,6 +3,7 @@ pub mod ParamLaws
 pub mod SpellingLaws
 pub mod ParamSpellingLaws
 pub mod Prefixes
+pub mod PlayLaws
 pub mod Digits
 pub mod ReadBack
 pub mod Parts

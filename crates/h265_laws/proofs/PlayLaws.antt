@@ -1,0 +1,195 @@
+-- What a script shows and what is written of it, line by line.
+use Rattle.std.proofs.Common.{◌≡◌, ◌≢◌, ℕ, zero, suc, ◌+◌, ◌<◌, ◌≤◌, Bool, true, false, List, [], ◌∷◌, ◌++◌, length, get_or, map, take, drop, take-append-drop, mul_comm, ◌-◌, ◌*◌, Option, Some, None, refl, sym, ◌∙◌, ap, subst, arith, add-one, append_assoc, length-append}
+use Rattle.std.specs.Prelude.{count_by, not, ◌==◌, cond, slice_index_or, fold}
+use Rattle.std.specs.List.{AllByRecursion, last_or, range_with_len}
+use Rattle.std.proofs.lemmas.Bool.Decides.{nat_tests}
+use Rattle.std.proofs.lemmas.List.{append-nil}
+use Rattle.h265_model.specs.declared.entry.Entry.{Entry}
+use Rattle.h265_model.specs.declared.entry.Entry.TheVariants as entry
+use Rattle.h265_model.specs.declared.line.Line.{Line}
+use Rattle.h265_model.specs.declared.line.Rgb.{Rgb}
+use Rattle.h265_model.specs.Lines.{black}
+use Rattle.h265_model.specs.declared.line.Line.TheVariants.{Fill, Blit, Cut}
+use Rattle.h265_model.specs.Plain.{Size}
+use Rattle.h265_model.specs.Words.{Settings}
+use Rattle.h265_model.specs.Script.{is_cut}
+use Rattle.h265_model.specs.Raster.{Raster, IsRaster, IsColour, HasColours, raster, colour, repainted, paints as paints_place, rasters_after, lines_of, pictures, accepted_line}
+use Rattle.h265_model.specs.Histories.{own_order, cuts, paints, indexes_of, take_numbers, takes, script_length, IsLawful}
+use Rattle.h265_model.specs.NalUnits.{stream_bytes}
+use Rattle.h265_model.specs.ParamSets.{param_units}
+use Rattle.h265_model.specs.Stream.{pieces, pieces_after, picture_piece}
+use Rattle.h265_model.proofs.Squares.{length_places, all_places}
+use Rattle.h265_laws.specs.Laws.{EachPictureIsRaster}
+use Rattle.h265_laws.proofs.Prefixes.{prefixes}
+
+-- ---- rasters
+
+pub rasters_after-append : (size : Size) (before xs ys : List Line) →
+    rasters_after size before (xs ++ ys) ≡ rasters_after size before xs ++ rasters_after size (before ++ xs) ys
+unfolding rasters_after
+rasters_after-append size before [] ys = ap (λ (l : List Line). rasters_after size l ys) (sym (append-nil before))
+rasters_after-append size before (Fill r c ∷ xs) ys =
+    rasters_after-append size (before ++ Fill r c ∷ []) xs ys
+    ∙ ap (λ (l : List Line). rasters_after size (before ++ Fill r c ∷ []) xs ++ rasters_after size l ys) (append_assoc before (Fill r c ∷ []) xs)
+rasters_after-append size before (Blit r pixels ∷ xs) ys =
+    rasters_after-append size (before ++ Blit r pixels ∷ []) xs ys
+    ∙ ap (λ (l : List Line). rasters_after size (before ++ Blit r pixels ∷ []) xs ++ rasters_after size l ys) (append_assoc before (Blit r pixels ∷ []) xs)
+rasters_after-append size before (Cut ∷ xs) ys =
+    ap (λ (l : List Raster). raster size before ∷ l)
+    (rasters_after-append size (before ++ Cut ∷ []) xs ys
+    ∙ ap (λ (l : List Line). rasters_after size (before ++ Cut ∷ []) xs ++ rasters_after size l ys) (append_assoc before (Cut ∷ []) xs))
+
+-- ---- pieces
+
+pieces_after-append : (settings : Settings) (n : ℕ) (before : Option Raster) (ps : List Raster) (now : Raster) →
+    pieces_after settings n before (ps ++ now ∷ []) ≡ pieces_after settings n before ps ++ picture_piece settings (n + length ps) (last_or before ps) now ∷ []
+unfolding pieces_after
+pieces_after-append settings n before [] now =
+    let e : n + 0 ≡ n = omega arith in
+    ap (λ (m : ℕ). picture_piece settings m before now ∷ []) (sym e)
+pieces_after-append settings n before (p ∷ ps) now =
+    let e : (n + 1) + length ps ≡ n + length (p ∷ ps) = omega arith in
+    ap (λ (l : List (List ℕ)). picture_piece settings n before p ∷ l)
+    (pieces_after-append settings (n + 1) (Some p) ps now
+    ∙ ap (λ (m : ℕ). pieces_after settings (n + 1) (Some p) ps ++ picture_piece settings m (last_or (Some p) ps) now ∷ []) e)
+
+-- one more picture is one more piece
+pub pieces-append : (settings : Settings) (ps : List Raster) (now : Raster) →
+    pieces settings (ps ++ now ∷ []) ≡ pieces settings ps ++ picture_piece settings (length ps) (last_or None ps) now ∷ []
+unfolding pieces
+pieces-append settings ps now =
+    let e : 0 + length ps ≡ length ps = omega arith in
+    ap (λ (l : List (List ℕ)). stream_bytes (param_units settings.size) ∷ l)
+    (pieces_after-append settings 0 None ps now
+    ∙ ap (λ (m : ℕ). pieces_after settings 0 None ps ++ picture_piece settings m (last_or None ps) now ∷ []) e)
+
+-- ---- a script in its own order
+
+map_lines : (scripts : List (List Line)) (n k : ℕ) → lines_of scripts (map (λ index. entry.Line 0 index) (range_with_len k n)) ≡ map (accepted_line scripts 0) (range_with_len k n)
+unfolding lines_of
+map_lines scripts zero k = refl
+map_lines scripts (suc n) k = ap (λ (l : List Line). accepted_line scripts 0 k ∷ l) (map_lines scripts n (k + 1))
+
+next_line : (line : Line) (script : List Line) (k : ℕ) → accepted_line ((line ∷ script) ∷ []) 0 (k + 1) ≡ accepted_line (script ∷ []) 0 k
+next_line line script k = rw add-one refl
+
+map_shift : (line : Line) (script : List Line) (n k : ℕ) →
+    map (accepted_line ((line ∷ script) ∷ []) 0) (range_with_len (k + 1) n) ≡ map (accepted_line (script ∷ []) 0) (range_with_len k n)
+map_shift line script zero k = refl
+map_shift line script (suc n) k =
+    ap (λ (l : Line). l ∷ map (accepted_line ((line ∷ script) ∷ []) 0) (range_with_len (k + 1 + 1) n)) (next_line line script k)
+    ∙ ap (λ (l : List Line). accepted_line (script ∷ []) 0 k ∷ l) (map_shift line script n (k + 1))
+
+map_all : (script : List Line) → map (accepted_line (script ∷ []) 0) (range_with_len 0 (length script)) ≡ script
+map_all [] = refl
+map_all (line ∷ script) = ap (λ (l : List Line). line ∷ l) (map_shift line script (length script) 0 ∙ map_all script)
+
+-- the lines that it accepts are the script's
+pub lines_of-own_order : (script : List Line) → lines_of (script ∷ []) (own_order (script ∷ [])) ≡ script
+lines_of-own_order script = map_lines (script ∷ []) (length script) 0 ∙ map_all script
+
+pub pictures-own_order : (size : Size) (script : List Line) → pictures size (script ∷ []) (own_order (script ∷ [])) ≡ rasters_after size [] script
+pictures-own_order size script = ap (rasters_after size []) (lines_of-own_order script)
+
+pub cuts-own_order : (script : List Line) → cuts (script ∷ []) (own_order (script ∷ [])) ≡ count_by is_cut script
+cuts-own_order script = ap (count_by is_cut) (lines_of-own_order script)
+
+pub paints-own_order : (script : List Line) → paints (script ∷ []) (own_order (script ∷ [])) ≡ count_by (λ line. not (is_cut line)) script
+paints-own_order script = ap (count_by (λ line. not (is_cut line))) (lines_of-own_order script)
+
+-- ---- that order is lawful
+
+client_zero : (n k : ℕ) → indexes_of (map (λ index. entry.Line 0 index) (range_with_len k n)) 0 ≡ range_with_len k n
+unfolding indexes_of
+client_zero zero k = refl
+client_zero (suc n) k = ap (λ (l : List ℕ). k ∷ l) (client_zero n (k + 1))
+
+not_first : (c : ℕ) → (0 == suc c) ≡ false
+not_first c = grind (arith, nat_tests)
+
+client_other : (c n k : ℕ) → indexes_of (map (λ index. entry.Line 0 index) (range_with_len k n)) (suc c) ≡ []
+unfolding indexes_of
+client_other c zero k = refl
+client_other c (suc n) k = rw (not_first c) (client_other c n (k + 1))
+
+no_takes : (n k : ℕ) → take_numbers (map (λ index. entry.Line 0 index) (range_with_len k n)) ≡ []
+unfolding take_numbers
+no_takes zero k = refl
+no_takes (suc n) k = no_takes n (k + 1)
+
+take_inside : (before after : List Entry) (number : ℕ) → take_numbers (before ++ entry.Take number ∷ after) ≡ take_numbers before ++ number ∷ take_numbers after
+unfolding take_numbers
+take_inside [] after number = refl
+take_inside (entry.Line c i ∷ before) after number = take_inside before after number
+take_inside (entry.Take n ∷ before) after number = ap (λ (l : List ℕ). n ∷ l) (take_inside before after number)
+
+not_none : (xs : List ℕ) (n : ℕ) (ys : List ℕ) → xs ++ n ∷ ys ≡ [] → ⊥
+not_none [] n ys e = cc
+not_none (x ∷ xs) n ys e = cc
+
+begins_own : (script : List Line) (client : ℕ) → (n : ℕ) × (n ≤ script_length (script ∷ []) client) × (indexes_of (own_order (script ∷ [])) client ≡ range_with_len 0 n)
+begins_own script zero = (length script, omega arith, client_zero (length script) 0)
+begins_own script (suc c) = (0, omega arith, client_other c (length script) 0)
+
+pub own_order-is_lawful : (script : List Line) → IsLawful (script ∷ []) (own_order (script ∷ []))
+own_order-is_lawful script =
+    let none : take_numbers (own_order (script ∷ [])) ≡ [] = no_takes (length script) 0 in
+    record {
+      begins = begins_own script;
+      in_order = none ∙ ap (λ (l : List ℕ). range_with_len 0 (length l)) (sym none);
+      after_cuts = λ before after number e. absurd (not_none (take_numbers before) number (take_numbers after) (sym (take_inside before after number) ∙ ap take_numbers (sym e) ∙ none));
+    }
+
+-- ---- rasters of colours
+
+coloured_at : (pixels : List Rgb) (i : ℕ) → AllByRecursion IsColour pixels → IsColour (slice_index_or pixels i black)
+coloured_at [] i h = record { r = omega arith; g = omega arith; b = omega arith }
+coloured_at (p ∷ pixels) zero h = h.0
+coloured_at (p ∷ pixels) (suc i) h = coloured_at pixels i h.1
+
+one_of : (b : Bool) (c d : Rgb) → IsColour c → IsColour d → IsColour (cond b c d)
+one_of true c d p q = p
+one_of false c d p q = q
+
+repainted_coloured : (x y : ℕ) (before : Rgb) (line : Line) → IsColour before → HasColours line → IsColour (repainted x y before line)
+repainted_coloured x y before (Fill r c) p h = one_of (paints_place r x y) c before h p
+repainted_coloured x y before (Blit r pixels) p h = one_of (paints_place r x y) _ before (coloured_at pixels ((y - r.y) * r.w + (x - r.x)) h) p
+repainted_coloured x y before Cut p h = p
+
+fold_coloured : (x y : ℕ) (start : Rgb) (lines : List Line) → IsColour start → AllByRecursion HasColours lines → IsColour (fold (repainted x y) start lines)
+fold_coloured x y start [] p h = p
+fold_coloured x y start (line ∷ lines) p h = fold_coloured x y (repainted x y start line) lines (repainted_coloured x y start line p h.0) h.1
+
+colour_coloured : (x y : ℕ) (lines : List Line) → AllByRecursion HasColours lines → IsColour (colour lines x y)
+unfolding colour
+colour_coloured x y lines h = fold_coloured x y black lines (record { r = omega arith; g = omega arith; b = omega arith }) h
+
+raster_is : (size : Size) (lines : List Line) → AllByRecursion HasColours lines → IsRaster size (raster size lines)
+unfolding raster
+raster_is size lines h = record {
+  places = length_places size.w size.h (colour lines) ∙ mul_comm size.h size.w;
+  colours = all_places IsColour size.w size.h (colour lines) (λ x y p q. colour_coloured x y lines h);
+}
+
+with_last : (before : List Line) (line : Line) → AllByRecursion HasColours before → HasColours line → AllByRecursion HasColours (before ++ line ∷ [])
+with_last [] line p h = (h, tt)
+with_last (b ∷ before) line p h = (p.0, with_last before line p.1 h)
+
+rasters_are : (size : Size) (before lines : List Line) → AllByRecursion HasColours before → AllByRecursion HasColours lines → AllByRecursion (IsRaster size) (rasters_after size before lines)
+unfolding rasters_after
+rasters_are size before [] p h = tt
+rasters_are size before (Fill r c ∷ lines) p h = rasters_are size (before ++ Fill r c ∷ []) lines (with_last before (Fill r c) p h.0) h.1
+rasters_are size before (Blit r pixels ∷ lines) p h = rasters_are size (before ++ Blit r pixels ∷ []) lines (with_last before (Blit r pixels) p h.0) h.1
+rasters_are size before (Cut ∷ lines) p h = (raster_is size before p, rasters_are size (before ++ Cut ∷ []) lines (with_last before Cut p h.0) h.1)
+
+pub each_picture_is_raster : EachPictureIsRaster
+each_picture_is_raster size lines h = rasters_are size [] lines tt h
+
+-- the pieces of the pictures of a script's first lines begin those of all
+pub pieces_of_front : (settings : Settings) (script : List Line) (k : ℕ) →
+    (rest : List (List ℕ)) × (pieces settings (rasters_after settings.size [] script) ≡ pieces settings (rasters_after settings.size [] (take k script)) ++ rest)
+pieces_of_front settings script k =
+    let split : rasters_after settings.size [] script ≡ rasters_after settings.size [] (take k script) ++ rasters_after settings.size (take k script) (drop k script) =
+    ap (rasters_after settings.size []) (sym (take-append-drop k script)) ∙ rasters_after-append settings.size [] (take k script) (drop k script) in
+    let kept = prefixes settings (rasters_after settings.size [] (take k script)) (rasters_after settings.size (take k script) (drop k script)) in
+    (kept.0, ap (pieces settings) split ∙ kept.1)

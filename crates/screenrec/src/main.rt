@@ -1,0 +1,8 @@
+//! Replays paint scripts on one desktop, and writes the cut pictures as a lossless H.265 stream.
+#![tactic(auto)]
+
+mod outcome;
+
+pub use outcome::{Form, Outcome, Status};
+
+fn main() {}
