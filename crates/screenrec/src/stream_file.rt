@@ -8,6 +8,7 @@ ghost use Rattle.h265_model.specs.Raster.{Raster};
 ghost use Rattle.h265_model.specs.Stream.{picture_piece};
 ghost use Rattle.edges.specs.Causes.{HasWriteCause};
 ghost use Rattle.px_plane.specs.Planes.{Shows, ShowsLines};
+ghost use Rattle.paint_script.specs.Spellable.{IsSpellable, AreSpellable};
 ghost use Rattle.screenrec.specs.Built.{built, one_ctu};
 ghost use Rattle.screenrec.specs.Stored.{stream_after, AppendsPiece, Continues, EndsIn, EndsAnew};
 
@@ -57,6 +58,7 @@ fn play_line<F: Shelf>(
     shelf: &mut F,
 ) -> Result<u64, WriteError>
     requires sized { picture.old.size ≡ one_ctu }
+    requires spellable { IsSpellable line.now }
     ensures sized { picture.new.size ≡ one_ctu }
     ensures shown { (done : List Line) → ShowsLines picture.old done → ShowsLines picture.new (done ++ line.now ∷ []) }
     ensures cause { HasWriteCause (F.write_faults shelf.old) (F.write_faults shelf.new) result }
@@ -73,7 +75,10 @@ fn play_line<F: Shelf>(
             picture.fill(*rect, *colour);
             Ok(0)
         }
-        Line::Blit { .. } => Ok(0),
+        Line::Blit { rect, pixels } => {
+            picture.blit(*rect, pixels.as_slice());
+            Ok(0)
+        }
         Line::Cut => append_picture(alloc, picture, name, shelf),
     }
 }
@@ -88,6 +93,7 @@ fn write_pictures<F: Shelf>(
     first: u64,
 ) -> Ending
     requires few { length lines.now < 2 ^ 32 }
+    requires spellable { AreSpellable lines.now }
     requires sized { picture.size ≡ one_ctu }
     requires blank { ShowsLines picture [] }
     requires first { first ≡ length (stream_after []) }
