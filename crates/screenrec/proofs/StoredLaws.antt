@@ -13,7 +13,13 @@ use Rattle.h265_model.specs.declared.line.Rgb.{Rgb}
 use Rattle.h265_model.specs.Plain.{Size, joined, place_values}
 use Rattle.h265_model.specs.Lines.{black}
 use Rattle.h265_model.specs.Raster.{Raster, raster, rasters_after, colour, repainted}
-use Rattle.h265_model.specs.Stream.{pieces, picture_piece, stream_of}
+use Rattle.h265_model.specs.NalUnits.{stream_bytes, escape_after}
+use Rattle.h265_model.specs.Bits.{u, ue, digits_up_to, value_after, bytes}
+use Rattle.h265_model.specs.Fields.{fields_bits}
+use Rattle.h265_model.specs.ParamSets.{param_units, profile_tier_level, vps_front, vps_back, sps_formats, sps_front, size_fields, sps_back, pps_fields}
+use Rattle.screenrec.specs.declared.stream_file.TheConstants.{PARAMETER_SETS}
+use Rattle.h265_model.specs.Stream.{pieces, pieces_after, picture_piece, stream_of}
+use Rattle.edges.specs.Shelf.{AppendsTo}
 use Rattle.h265_model.specs.Files.{Files, file_at, IsPrefix, WhereTold}
 use Rattle.h265_model.specs.FileLaws.{file_at-insert, insert_again, told_on}
 use Rattle.h265_model.specs.Headline.{IsCutShort}
@@ -171,3 +177,61 @@ told_stopped a b c name lines k written line more counted first second =
     (λ before after. (start : Files) → before ≡ insert start name (stream_after []) → IsCutShort built name (rasters_after one_ctu [] lines) start after written)
     first second
     (λ x y z p q start e. stopped_short name lines k written line start z more counted (q start (p start e)))
+
+-- ---- the first piece
+
+pub none_cut : pieces_after_lines [] ≡ stream_bytes (param_units one_ctu) ∷ []
+unfolding pieces pieces_after rasters_after
+none_cut = refl
+
+first_stopped : (name : List ℕ) (lines : List Line) (start x y : Files) (part : List ℕ) → IsPrefix part (stream_after []) → x ≡ insert start name [] →
+    y ≡ insert x name (file_at x name ++ part) → IsCutShort built name (rasters_after one_ctu [] lines) start y 0
+first_stopped name lines start x y part front p q =
+    let all = pieces_of_front built lines 0 in
+    let one : pieces_after_lines lines ≡ stream_bytes (param_units one_ctu) ∷ all.0 = all.1 ∙ ap (λ (l : List (List ℕ)). l ++ all.0) none_cut in
+    let first : stream_after [] ≡ stream_bytes (param_units one_ctu) = ap joined none_cut ∙ append-nil (stream_bytes (param_units one_ctu)) in
+    record {
+      whole = 0;
+      part = part;
+      is_part = (front.0, ap (λ (l : List (List ℕ)). slice_index_or l 0 []) one ∙ sym first ∙ front.1);
+      stored = grown start x y name [] part p q;
+      counted = refl;
+    }
+
+pub first_told : (a b : Option Files) (name first : List ℕ) (lines : List Line) (error : WriteError) → first ≡ stream_after [] →
+    WhereTold a b (λ before after. AppendsTo name first before after (Err error)) →
+    WhereTold a b (λ before after. (start : Files) → before ≡ insert start name [] → IsCutShort built name (rasters_after one_ctu [] lines) start after 0)
+first_told a b name first lines error is told =
+    told_as a b (λ before after. AppendsTo name first before after (Err error))
+    (λ before after. (start : Files) → before ≡ insert start name [] → IsCutShort built name (rasters_after one_ctu [] lines) start after 0) told
+    (go error)
+  where
+    go : (error : WriteError) (x y : Files) → AppendsTo name first x y (Err error) → (start : Files) → x ≡ insert start name [] → IsCutShort built name (rasters_after one_ctu [] lines) start y 0
+    go write.Failed x y p start e = first_stopped name lines start x y p.0 (p.1.0, sym is ∙ p.1.1) e p.2
+    go write.NoMemory x y p start e =
+        first_stopped name lines start x y [] (stream_after [], refl) e
+        (p ∙ e ∙ sym (insert_again start name [] []) ∙ ap (λ (m : Files). insert m name []) (sym e) ∙ ap (λ (l : List ℕ). insert x name l) (sym (ap (λ (m : Files). file_at m name) e ∙ file_at-insert start name []) ∙ sym (append-nil (file_at x name))))
+
+-- the first piece stands in the file
+pub first_stands : (a b : Option Files) (name first : List ℕ) → first ≡ stream_after [] →
+    WhereTold a b (λ before after. after ≡ insert before name (file_at before name ++ first)) →
+    WhereTold a b (λ before after. (start : Files) → before ≡ insert start name [] → after ≡ insert start name (stream_after []))
+first_stands a b name first is told =
+    told_as a b (λ before after. after ≡ insert before name (file_at before name ++ first))
+    (λ before after. (start : Files) → before ≡ insert start name [] → after ≡ insert start name (stream_after [])) told
+    (λ x y p start e. grown start x y name [] first e p ∙ ap (insert start name) is)
+
+-- the parameter sets of one coding tree unit, byte for byte
+pub parameter_sets : PARAMETER_SETS ≡ stream_after []
+unfolding pieces pieces_after rasters_after param_units stream_bytes profile_tier_level vps_front vps_back sps_formats sps_front size_fields sps_back pps_fields fields_bits u ue digits_up_to value_after bytes escape_after
+parameter_sets = refl
+
+pub pieces_told : (a b c : Option Files) (name : List ℕ) (lines : List Line) (result : Result (Unit {0}) WriteError) (written : ℕ) →
+    WhereTold a b (λ before after. (start : Files) → before ≡ insert start name [] → after ≡ insert start name (stream_after [])) →
+    WhereTold b c (λ before after. (start : Files) → before ≡ insert start name (stream_after []) → EndsIn name lines start after result written) →
+    WhereTold a c (λ before after. (start : Files) → before ≡ insert start name [] → EndsIn name lines start after result written)
+pieces_told a b c name lines result written first second =
+    told_on a b c (λ before after. (start : Files) → before ≡ insert start name [] → after ≡ insert start name (stream_after []))
+    (λ before after. (start : Files) → before ≡ insert start name (stream_after []) → EndsIn name lines start after result written)
+    (λ before after. (start : Files) → before ≡ insert start name [] → EndsIn name lines start after result written)
+    first second (λ x y z p q start e. q start (p start e))

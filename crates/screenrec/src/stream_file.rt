@@ -14,9 +14,18 @@ ghost use Rattle.screenrec.specs.Stored.{stream_after, AppendsPiece, Continues, 
 
 use crate::pcm_picture::pcm_piece;
 use edges::{Shelf, WriteError};
-use h265_model::Line;
-use px_plane::Picture;
+use h265_model::{Line, NoMemory};
+use px_plane::{Picture, Size};
 use std::alloc::Global;
+
+// The parameter sets of 32x32 (7.3.2.1 to 7.3.2.3), each after a start code.
+const PARAMETER_SETS: [u8; 74] = [
+    0x00, 0x00, 0x00, 0x01, 0x40, 0x01, 0x0C, 0x01, 0xFF, 0xFF, 0x24, 0x08, 0x00, 0x00, 0x03, 0x00,
+    0xBE, 0x08, 0x00, 0x00, 0x03, 0x00, 0x00, 0x9C, 0xAC, 0x09, 0x00, 0x00, 0x00, 0x01, 0x42, 0x01,
+    0x01, 0x24, 0x08, 0x00, 0x00, 0x03, 0x00, 0xBE, 0x08, 0x00, 0x00, 0x03, 0x00, 0x00, 0x9C, 0x90,
+    0x08, 0x41, 0x0B, 0x2D, 0x77, 0x26, 0x2E, 0xF7, 0x4B, 0x89, 0xB8, 0x08, 0x68, 0x00, 0x04, 0x00,
+    0x00, 0x00, 0x01, 0x44, 0x01, 0xC0, 0x71, 0x8A, 0xA4, 0x80,
+];
 
 /// How the writing of a stream ended, and the bytes of the pieces that were appended whole.
 #[derive(Debug, Drop)]
@@ -119,4 +128,79 @@ fn write_pictures<F: Shelf>(
         result: Ok(()),
         written,
     }
+}
+
+/// Makes the file, and writes the stream of the pictures that the lines cut to it, piece by piece: the parameter sets,
+/// and one piece for each picture.
+///
+/// The result is `Failed` only where a write failed. No piece is written after that.
+pub fn write_stream<F: Shelf>(alloc: Global, lines: &[Line], name: &str, shelf: &mut F) -> Ending
+    requires few { length lines.now < 2 ^ 32 }
+    requires spellable { AreSpellable lines.now }
+    ensures cause { HasWriteCause (F.write_faults shelf.old) (F.write_faults shelf.new) result.result }
+    ensures reads { F.read_faults shelf.new ≡ F.read_faults shelf.old }
+    ensures files { WhereTold (F.files shelf.old) (F.files shelf.new) (λ before after.
+        EndsAnew name.now lines.now before after result.result result.written) }
+{
+    let Ok(start) = make_start(alloc) else {
+        return Ending {
+            result: Err(WriteError::NoMemory),
+            written: 0,
+        };
+    };
+    if let Err(error) = shelf.create(name) {
+        return Ending {
+            result: Err(error),
+            written: 0,
+        };
+    }
+    write_pieces(alloc, lines, start, name, shelf)
+}
+
+// What a stream begins with: the parameter sets, and a black desktop.
+#[derive(Drop)]
+struct Start {
+    first: Vec<u8>,
+    picture: Picture,
+}
+
+fn make_start(alloc: Global) -> Result<Start, NoMemory>
+    ensures first { IfOk result (λ start. start.first.items ≡ stream_after []) }
+    ensures short { IfOk result (λ start. length start.first.items ≤ 8192) }
+    ensures sized { IfOk result (λ start. start.picture.size ≡ one_ctu) }
+    ensures blank { IfOk result (λ start. ShowsLines start.picture []) }
+{
+    let first = Vec::from_slice(alloc, &PARAMETER_SETS)?;
+    let size = Size::new(32, 32).unwrap();
+    let picture = Picture::black(alloc, size)?;
+    Ok(Start { first, picture })
+}
+
+// Appends the first piece to the empty file, and then those of the pictures.
+fn write_pieces<F: Shelf>(
+    alloc: Global,
+    lines: &[Line],
+    start: Start,
+    name: &str,
+    shelf: &mut F,
+) -> Ending
+    requires few { length lines.now < 2 ^ 32 }
+    requires spellable { AreSpellable lines.now }
+    requires first { start.first.items ≡ stream_after [] }
+    requires short { length start.first.items ≤ 8192 }
+    requires sized { start.picture.size ≡ one_ctu }
+    requires blank { ShowsLines start.picture [] }
+    ensures cause { HasWriteCause (F.write_faults shelf.old) (F.write_faults shelf.new) result.result }
+    ensures reads { F.read_faults shelf.new ≡ F.read_faults shelf.old }
+    ensures files { WhereTold (F.files shelf.old) (F.files shelf.new) (λ before after. (before_that : Files) →
+        before ≡ insert before_that name.now [] → EndsIn name.now lines.now before_that after result.result result.written) }
+{
+    let Start { first, picture } = start;
+    if let Err(error) = shelf.append(name, &first) {
+        return Ending {
+            result: Err(error),
+            written: 0,
+        };
+    }
+    write_pictures(alloc, lines, picture, name, shelf, first.len() as u64)
 }
