@@ -1,2 +1,3 @@
 pub mod PcmLaw
 pub mod StoredLaws
+pub mod AcceptedLaws

@@ -1,5 +1,5 @@
 -- What of a script's stream stands in a file, line by line.
-use Rattle.std.specs.Prelude.{◌≡◌, ◌⊎◌, ℕ, List, [], ◌∷◌, ◌++◌, length, Result, Ok, Err}
+use Rattle.std.specs.Prelude.{◌≡◌, ℕ, List, [], ◌∷◌, ◌++◌, length, Result, Ok, Err}
 use Rattle.std.specs.FinMap.{insert}
 use Rattle.h265_model.specs.declared.line.Line.{Line}
 use Rattle.h265_model.specs.Plain.{joined}
@@ -46,9 +46,3 @@ pub record IsStored (name : List ℕ) (lines : List Line) (before after : Files)
 abbrev pub EndsIn : List ℕ → List Line → Files → Files → Result (Unit {0}) WriteError → ℕ → Type 0
 EndsIn name lines before after (Ok done) written = IsStored name lines before after written
 EndsIn name lines before after (Err error) written = IsCutShort built name (rasters_after one_ctu [] lines) before after written
-
--- nothing was done, or the file was made
-abbrev pub EndsAnew : List ℕ → List Line → Files → Files → Result (Unit {0}) WriteError → ℕ → Type 0
-EndsAnew name lines before after (Ok done) written = IsStored name lines before after written
-EndsAnew name lines before after (Err error) written =
-    ((after ≡ before) × (written ≡ 0)) ⊎ IsCutShort built name (rasters_after one_ctu [] lines) before after written

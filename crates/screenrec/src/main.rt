@@ -2,7 +2,9 @@
 #![tactic(auto)]
 
 mod outcome;
+mod paint_file;
 mod pcm_picture;
+mod report;
 mod stream_file;
 
 pub use outcome::{Form, Outcome, Status};

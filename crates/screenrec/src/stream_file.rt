@@ -10,7 +10,8 @@ ghost use Rattle.edges.specs.Causes.{HasWriteCause};
 ghost use Rattle.px_plane.specs.Planes.{Shows, ShowsLines};
 ghost use Rattle.paint_script.specs.Spellable.{IsSpellable, AreSpellable};
 ghost use Rattle.screenrec.specs.Built.{built, one_ctu};
-ghost use Rattle.screenrec.specs.Stored.{stream_after, AppendsPiece, Continues, EndsIn, EndsAnew};
+ghost use Rattle.screenrec.specs.Stored.{stream_after, AppendsPiece, Continues, EndsIn};
+ghost use Rattle.screenrec.specs.Endings.{ending_of, EndsAnew};
 
 use crate::pcm_picture::pcm_piece;
 use edges::{Shelf, WriteError};
@@ -131,30 +132,29 @@ fn write_pictures<F: Shelf>(
 }
 
 /// Makes the file, and writes the stream of the pictures that the lines cut to it, piece by piece: the parameter sets,
-/// and one piece for each picture.
+/// and one piece for each picture. No piece is written after a fault.
 ///
-/// The result is `Failed` only where a write failed. No piece is written after that.
-pub fn write_stream<F: Shelf>(alloc: Global, lines: &[Line], name: &str, shelf: &mut F) -> Ending
+/// # Errors
+///
+/// The file was not made, and nothing was written: `Failed` only where a write failed, or `NoMemory`.
+pub fn write_stream<F: Shelf>(
+    alloc: Global,
+    lines: &[Line],
+    name: &str,
+    shelf: &mut F,
+) -> Result<Ending, WriteError>
     requires few { length lines.now < 2 ^ 32 }
     requires spellable { AreSpellable lines.now }
-    ensures cause { HasWriteCause (F.write_faults shelf.old) (F.write_faults shelf.new) result.result }
+    ensures cause { HasWriteCause (F.write_faults shelf.old) (F.write_faults shelf.new) (ending_of result) }
     ensures reads { F.read_faults shelf.new ≡ F.read_faults shelf.old }
     ensures files { WhereTold (F.files shelf.old) (F.files shelf.new) (λ before after.
-        EndsAnew name.now lines.now before after result.result result.written) }
+        EndsAnew name.now lines.now before after result) }
 {
     let Ok(start) = make_start(alloc) else {
-        return Ending {
-            result: Err(WriteError::NoMemory),
-            written: 0,
-        };
+        return Err(WriteError::NoMemory);
     };
-    if let Err(error) = shelf.create(name) {
-        return Ending {
-            result: Err(error),
-            written: 0,
-        };
-    }
-    write_pieces(alloc, lines, start, name, shelf)
+    shelf.create(name)?;
+    Ok(write_pieces(alloc, lines, start, name, shelf))
 }
 
 // What a stream begins with: the parameter sets, and a black desktop.
