@@ -1,3 +1,4 @@
 pub mod PcmLaw
 pub mod StoredLaws
 pub mod AcceptedLaws
+pub mod AloneLaws

@@ -5,6 +5,7 @@ mod outcome;
 mod paint_file;
 mod pcm_picture;
 mod report;
+mod serial;
 mod stream_file;
 
 pub use outcome::{Form, Outcome, Status};

@@ -1,0 +1,24 @@
+use Rattle.std.proofs.Common.{◌≡◌, ◌∙◌, ◌∷◌, [], ℕ, List, ap, map}
+use Rattle.std.specs.List.{range_with_len}
+use Rattle.h265_model.specs.declared.entry.Entry.{Entry}
+use Rattle.h265_model.specs.declared.entry.Entry.TheVariants as entry
+use Rattle.h265_model.specs.Histories.{own_order}
+use Rattle.screenrec.proofs.AloneLaws.{whole_files, stopped_files}
+use Rattle.screenrec.proofs.serial.record_script.Goals as goal
+
+pub returns-in-Err-result-clause-files : goal.returns-in-Err-result-clause-files
+returns-in-Err-result-clause-files g c =
+    let own : c.in-Ok.order ≡ own_order (c.args.script.now ∷ []) =
+        c.in-Ok.ensures ∙ ap (λ (n : ℕ). map (λ (index : ℕ). entry.Line 0 index) (range_with_len 0 n)) c.lines.ensures.value in
+    rw c.status_of-in-Err-result.ensures
+    (stopped_files (g.F.Shelf.files c.args.shelf.now) (g.F.Shelf.files c.write_stream.new.shelf) c.args.out.now c.args.script.now c.in-Ok.order
+    c.in-Ok-write_stream.ending.written c.in-Err-result.error own
+    (rw (c.in-Err-result.is, c.as_slice.ensures.lines) at c.in-Ok-write_stream.ensures.files))
+
+pub returns-clause-files : goal.returns-clause-files
+returns-clause-files g c =
+    let own : c.in-Ok.order ≡ own_order (c.args.script.now ∷ []) =
+        c.in-Ok.ensures ∙ ap (λ (n : ℕ). map (λ (index : ℕ). entry.Line 0 index) (range_with_len 0 n)) c.lines.ensures.value in
+    whole_files (g.F.Shelf.files c.args.shelf.now) (g.F.Shelf.files c.write_stream.new.shelf) c.args.out.now c.args.script.now c.in-Ok.order
+    c.in-Ok-write_stream.ending.written c.report_script-status.result c.report_script-status.ensures.status c.as_slice.ensures.spellable own
+    (rw (c.in_default-result.is, c.as_slice.ensures.lines) at c.in-Ok-write_stream.ensures.files)
