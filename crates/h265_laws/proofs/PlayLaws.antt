@@ -190,6 +190,6 @@ pub pieces_of_front : (settings : Settings) (script : List Line) (k : ℕ) →
     (rest : List (List ℕ)) × (pieces settings (rasters_after settings.size [] script) ≡ pieces settings (rasters_after settings.size [] (take k script)) ++ rest)
 pieces_of_front settings script k =
     let split : rasters_after settings.size [] script ≡ rasters_after settings.size [] (take k script) ++ rasters_after settings.size (take k script) (drop k script) =
-        ap (rasters_after settings.size []) (sym (take-append-drop k script)) ∙ rasters_after-append settings.size [] (take k script) (drop k script) in
+    ap (rasters_after settings.size []) (sym (take-append-drop k script)) ∙ rasters_after-append settings.size [] (take k script) (drop k script) in
     let kept = prefixes settings (rasters_after settings.size [] (take k script)) (rasters_after settings.size (take k script) (drop k script)) in
     (kept.0, ap (pieces settings) split ∙ kept.1)

@@ -18,6 +18,8 @@ use Rattle.h265_model.specs.declared.leaf.Kind.{Kind}
 use Rattle.h265_model.specs.declared.leaf.Leaf.{Leaf}
 use Rattle.h265_model.specs.Plain.{Size, ctus, leaf_with, Picture, IsPicture, below, joined, AreBytes}
 use Rattle.h265_model.specs.NalUnits.{NalUnit, stream_bytes, units, escape, unescape, IsNalUnit}
+use Rattle.h265_model.specs.declared.Place.TheVariants.{Bypass}
+use Rattle.h265_model.specs.Binarise.{tr, fl, eg, remaining, bypass_bins, tr_read, fl_read, eg_read, remaining_read}
 use Rattle.h265_model.specs.Modes.{AreCandidates, mode_read, mode_items}
 use Rattle.h265_model.specs.Residual.{IsSide, AreLevels, cbf, shape, residual_read, residual_items}
 use Rattle.h265_model.specs.Tree.{Source, IsSource, IsMode, AreModes, IsAllowed, AreAllowed, AreLawfulTrees, IsLawfulTree, reads_of, coding_unit_read, coding_unit_items, ctu_read, ctu_items, read_row, items_of_row, values_from, source_of, ReadCtu, IsCopy}
@@ -78,6 +80,22 @@ EachListIsReadBack = (list : List Item) (contexts z : List ℕ) → IsWellFormed
 
 -- ---- what is read of items
 
+-- truncated Rice codes with the parameter 0 (9.3.3.2)
+abbrev pub EachTruncatedCodeIsRead : Type 0
+EachTruncatedCodeIsRead = (limit value : ℕ) → value ≤ limit → Reads (tr_read (λ i. Bypass) limit) (bypass_bins (tr limit value)) value
+
+-- fixed-length codes (9.3.3.5)
+abbrev pub EachFixedCodeIsRead : Type 0
+EachFixedCodeIsRead = (n value : ℕ) → value < 2 ^ n → Reads (fl_read n) (bypass_bins (fl n value)) value
+
+-- Exp-Golomb codes of order k (9.3.3.3)
+abbrev pub EachGolombCodeIsRead : Type 0
+EachGolombCodeIsRead = (k value : ℕ) → value < 65535 → Reads (eg_read k) (bypass_bins (eg k value)) value
+
+-- coeff_abs_level_remaining with the Rice parameter r (9.3.3.11)
+abbrev pub EachRemainingLevelIsRead : Type 0
+EachRemainingLevelIsRead = (r value : ℕ) → value < 65535 → Reads (remaining_read r) (bypass_bins (remaining r value)) value
+
 -- an intra mode (7.3.8.5, 8.4.2)
 abbrev pub EachModeIsRead : Type 0
 EachModeIsRead =
@@ -119,7 +137,7 @@ EachChoiceIsLawful = (prev : Option Picture) (now : Picture) (size : Size) (effo
 abbrev pub EachPictureIsSource : Type 0
 EachPictureIsSource = (size : Size) (picture : Picture) → IsPicture picture → IsSource (source_of size picture)
 
--- the items of a row end in a terminating bin 1, and each other one has samples after it (9.3.2.5)
+-- the items of a row end in a terminating bin 1, and each other one has samples after it (7.3.8.1, 7.3.8.7)
 abbrev pub EachRowIsWellFormed : Type 0
 EachRowIsWellFormed =
     (kind : SliceKind) (size : Size) (source : Source) (leaves : List (List Leaf)) (row : ℕ) →
@@ -135,7 +153,7 @@ EachSliceIsRead =
     (found : List ReadCtu) × (read_data kind size (map length (but_last (map escape rows))) (joined rows) ≡ Some found)
     × (flat_map (λ ctu. ctu.leaves) found ≡ reads_of source (joined leaves)))
 
--- what is read of a picture's leaves rebuilds the picture over any previous one that has the copied blocks (8.4.4.1, 8.6.1)
+-- what is read of a picture's leaves rebuilds the picture over any previous one that has the copied blocks (8.4.4.1, 8.6.2, 8.6.7)
 abbrev pub EachPictureIsRebuilt : Type 0
 EachPictureIsRebuilt =
     (kind : SliceKind) (size : Size) (prev now : Picture) (leaves : List (List Leaf)) →

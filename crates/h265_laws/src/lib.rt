@@ -1,7 +1,7 @@
 //! Laws over the definitions of `h265_model`. Each function does nothing: its clause is the law.
 #![tactic(auto)]
 
-ghost use Rattle.h265_laws.specs.Laws.{EachCodeIsRead, EachNalUnitIsRead, EachSizeIsRead, EachSizeIsSpelled, EachHeadIsRead, EachEscapeIsUndone, EachSubstreamIsCut, EachListIsReadBack, EachModeIsRead, EachBlockIsRead, EachLeafIsRead, EachTreeIsRead, EachRowIsRead, EachChoiceIsLawful, EachPictureIsSource, EachRowIsWellFormed, EachSliceIsRead, EachPictureIsRebuilt, EachRasterIsCropped, EachPictureIsRaster, EachStreamIsDecoded, EachPrefixIsKept, EachScheduleGivesTheBytes};
+ghost use Rattle.h265_laws.specs.Laws.{EachCodeIsRead, EachNalUnitIsRead, EachSizeIsRead, EachSizeIsSpelled, EachHeadIsRead, EachEscapeIsUndone, EachSubstreamIsCut, EachListIsReadBack, EachTruncatedCodeIsRead, EachFixedCodeIsRead, EachGolombCodeIsRead, EachRemainingLevelIsRead, EachModeIsRead, EachBlockIsRead, EachLeafIsRead, EachTreeIsRead, EachRowIsRead, EachChoiceIsLawful, EachPictureIsSource, EachRowIsWellFormed, EachSliceIsRead, EachPictureIsRebuilt, EachRasterIsCropped, EachPictureIsRaster, EachStreamIsDecoded, EachPrefixIsKept, EachScheduleGivesTheBytes};
 
 /// Each Exp-Golomb code is read back.
 pub fn each_code_is_read()
@@ -41,6 +41,26 @@ pub fn each_substream_is_cut()
 /// What is coded is read back, whatever follows the code.
 pub fn each_list_is_read_back()
     ensures { EachListIsReadBack }
+{}
+
+/// Each truncated Rice code is read back.
+pub fn each_truncated_code_is_read()
+    ensures { EachTruncatedCodeIsRead }
+{}
+
+/// Each fixed-length code is read back.
+pub fn each_fixed_code_is_read()
+    ensures { EachFixedCodeIsRead }
+{}
+
+/// Each Exp-Golomb code among the bins of slice data is read back.
+pub fn each_golomb_code_is_read()
+    ensures { EachGolombCodeIsRead }
+{}
+
+/// Each remaining level is read back.
+pub fn each_remaining_level_is_read()
+    ensures { EachRemainingLevelIsRead }
 {}
 
 /// Each intra mode is read back.

@@ -33,7 +33,7 @@ code_number (negsuc n) = 2 * n + 2
 abbrev pub se : ℤ → List Bool
 se z = ue (code_number z)
 
--- byte_alignment and rbsp_trailing_bits after n bits: a one, and zeros to the byte (7.3.2.11, 7.3.2.12)
+-- rbsp_trailing_bits and byte_alignment after n bits: a one, and zeros to the byte (7.3.2.11, 7.3.2.12)
 abbrev pub alignment : ℕ → List Bool
 alignment n = true ∷ replicate (7 - n % 8) false
 

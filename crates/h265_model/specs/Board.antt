@@ -1,7 +1,9 @@
 -- The board of rows: what its words, its slots and all row seats say of the rows.
-use Rattle.std.specs.Prelude.{◌≡◌, ◌≢◌, ℕ, zero, suc, ◌+◌, ◌^◌, ◌<◌, ◌≤◌, min, Bool, true, false, List, [], map, flat_map, find, sum_by, filter, Option, Some, None, ◌==◌, slice_index_or, IsTrue, IsFalse, IsPermutation, if◌then◌else◌}
+use Rattle.std.specs.Prelude.{◌≡◌, ◌≢◌, ℕ, zero, suc, ◌+◌, ◌^◌, ◌<◌, ◌≤◌, min, Bool, true, false, List, [], map, flat_map, find, sum_by, filter, Option, Some, None, ◌==◌, slice_index_or, length, nat_lt, ◌&&◌, ◌||◌, IsTrue, IsFalse, IsPermutation, if◌then◌else◌}
 use Rattle.std.specs.List.{AllByRecursion, list_any}
-use Rattle.h265_model.specs.Plain.{below}
+use Rattle.h265_model.specs.Plain.{below, AreBytes}
+use Rattle.h265_model.specs.Contexts.{AreContexts}
+use Rattle.h265_model.specs.Wave.{Jobs, inherited, row_bytes, RowState}
 
 -- what the laws of a row's job name, of a job as it was made: whether it was begun, its width, and the contexts after its
 -- second CTU and its bytes, by what it inherits
@@ -34,6 +36,24 @@ pub record Seat : Type 0 where
   pub last_number : ℕ
   pub last : ℕ
   pub weight : ℕ
+
+-- what a board is made for: each row has the contexts that it hands on, of 130 state bytes, and the bytes that it gives
+pub record IsPlan (rows width : ℕ) (want give : List (List ℕ)) : Type 0 where
+  pub some_row : 0 < rows
+  pub few_rows : rows < 2 ^ 32
+  pub wide : 0 < width
+  pub want_long : length want ≡ rows
+  pub give_long : length give ≡ rows
+  -- at width 1 nothing is handed on
+  pub want_contexts : 2 ≤ width → AllByRecursion AreContexts want
+  pub give_bytes : AllByRecursion AreBytes give
+
+-- the two lists of these jobs: what each row hands on and gives, begun with what it inherits
+abbrev pub want_of : Jobs → ℕ → List (List ℕ)
+want_of jobs rows = map (λ r. jobs.second r (inherited jobs r)) (below rows)
+
+abbrev pub give_of : Jobs → ℕ → List (List ℕ)
+give_of jobs rows = map (row_bytes jobs) (below rows)
 
 -- what a row inherits
 abbrev pub row_inherits : ℕ → List (List ℕ) → ℕ → Option (List ℕ)
@@ -98,10 +118,16 @@ pub record RowRule (width : ℕ) (want give : List (List ℕ)) (seats : List Sea
   pub word : slice_index_or words (row + 1) 0 ≡ word_of (claimed_of seats row) (has_synced (claimed_of seats (row + 1)))
   pub slot : SlotOf width want give row (claimed_of seats row) (has_synced (claimed_of seats (row + 1))) (slice_index_or slots row Away)
   pub above : IsTrue (has_synced (claimed_of seats (row + 1))) → IsTrue (is_published (claimed_of seats row))
+  -- only a row with one above it syncs, and only two CTUs of a row hand contexts on
+  pub not_first : IsTrue (has_synced (claimed_of seats row)) → 0 < row
+  pub two_wide : IsTrue (is_published (claimed_of seats row)) → 2 ≤ width
   pub synced : 0 < row → IsTrue (is_published (claimed_of seats row)) → IsTrue (has_synced (claimed_of seats row))
 
 -- The rule over the words (word 0 is that of claims), the slots and all seats that weren't joined into another.
 pub record Rule (rows width : ℕ) (want give : List (List ℕ)) (words : List ℕ) (slots : List Slot) (seats : List Seat) : Type 0 where
+  pub plan : IsPlan rows width want give
+  pub words_long : length words ≡ rows + 1
+  pub slots_long : length slots ≡ rows
   pub claimed : IsPermutation (map (λ c. c.row) (all_rows seats)) (below (min (slice_index_or words 0 0) rows))
   pub passed : slice_index_or words 0 0 ≤ rows + sum_by (λ s. s.weight) (filter (λ s. s.met_none) seats)
   pub met : IsTrue (list_any (λ s. s.met_none) seats) → rows ≤ slice_index_or words 0 0
@@ -109,3 +135,11 @@ pub record Rule (rows width : ℕ) (want give : List (List ℕ)) (words : List �
   pub weighs : AllByRecursion (λ s. 1 ≤ s.weight) seats
   pub weights : sum_by (λ s. s.weight) seats ≡ 2 ^ 32
   pub each : (row : ℕ) → row < rows → RowRule width want give seats words slots row
+
+-- The words show this state of a row of the wavefront machine. What is coded and finished of a row its worker alone knows.
+pub record ShowsRow (words : List ℕ) (row : ℕ) (state : RowState) : Type 0 where
+  pub claimed : state.claimed ≡ nat_lt row (slice_index_or words 0 0)
+  pub published : state.published ≡ (slice_index_or words (row + 1) 0 == 1 || slice_index_or words (row + 1) 0 == 2)
+  pub lost : state.lost ≡ (slice_index_or words (row + 1) 0 == 3)
+  -- the word of the row above is 2
+  pub synced : state.synced ≡ (nat_lt 0 row && slice_index_or words row 0 == 2)

@@ -14,8 +14,8 @@ abbrev pub bytes_of : ℕ → ℕ → List ℕ
 bytes_of zero v = []
 bytes_of (suc n) v = (v / 256 ^ n % 256) ∷ bytes_of n v
 
--- A code that goes on: the bytes so far; of the run of bins since then the least number that may still
--- come, how many come from it on, and how often the two have doubled; and the contexts
+-- A code under way: the bytes so far; of the run of bins since then ivlLow as a number without bound,
+-- ivlCurrRange, and how often the two have doubled; and the contexts
 pub record Coding : Type 0 where
   pub done : List ℕ
   pub low : ℕ

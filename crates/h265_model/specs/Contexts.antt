@@ -7,7 +7,7 @@ use Rattle.h265_model.specs.declared.leaf.SliceKind.TheVariants.{I, P}
 use Rattle.h265_model.specs.Tables.{lps_ranges, states_after_lps, init_values_I, init_values_P}
 use Rattle.h265_model.specs.Bits.{digit}
 
--- 5.6: an arithmetic shift to the right, which rounds down
+-- 5.5: an arithmetic shift to the right, which rounds down
 abbrev pub shift_right : ℤ → ℕ → ℤ
 shift_right (pos n) k = pos (n / 2 ^ k)
 shift_right (negsuc n) k = negsuc (n / 2 ^ k)

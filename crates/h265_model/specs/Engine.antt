@@ -97,7 +97,7 @@ bin (Context n) = context_read n
 bin Bypass = bypass_read
 bin Terminate = terminate_read
 
--- 9.3.2.5: after a terminating bin 1 the bit read last is a 1, and zeros follow to the byte: the bits after them
+-- 9.3.4.3.5, 7.3.2.11, 7.3.2.12, 7.3.8.7: after a terminating bin 1 the bit read last is a 1, and zeros follow to the byte: the bits after them
 unfoldable pub aligned : Engine → Option (List Bool)
 aligned e = read_alignment (e.last ∷ e.bits)
 

@@ -57,7 +57,7 @@ unfoldable pub payload : List ℕ → List ℕ
 payload [] = []
 payload (b ∷ bytes) = if is_end (b ∷ bytes) then [] else b ∷ payload bytes
 
--- where bytes that no payload may have stand: 02 after 00 00, and more than 03 after 00 00 03 (7.4.2)
+-- where bytes that no payload may have stand: 02 after 00 00, and more than 03 after 00 00 03 (7.4.2.1)
 unfoldable pub forbidden : ℕ → List ℕ → Option ℕ
 forbidden at (a ∷ b ∷ c ∷ d ∷ bytes) =
     if a == 0 && b == 0 && c == 2 then Some (at + 2)
@@ -81,7 +81,7 @@ next_start at z (b ∷ bytes) =
     else if b == 1 && nat_le 2 z then Ok (Some (at + 1, bytes))
     else Err at
 
--- at most n NAL units, and then nothing but zeros
+-- the NAL units of these bytes, of which there are at most n
 unfoldable pub units_within : ℕ → ℕ → List ℕ → Result (List NalUnit) ℕ
 units_within zero at bytes = Ok []
 units_within (suc n) at bytes =
@@ -102,7 +102,7 @@ units bytes =
 
 -- ---- NAL units that are read back
 
--- a payload whose end can be told: it doesn't end in a zero (7.4.2)
+-- a payload whose end can be told: it doesn't end in a zero (7.4.2.1)
 abbrev pub EndsWell : List ℕ → Type 0
 EndsWell list = last_or (Some 1) list ≢ Some 0
 

@@ -16,7 +16,7 @@ pub record Size : Type 0 where
 abbrev pub coded : ℕ → ℕ
 coded n = (n + 7) / 8 * 8
 
--- how many coding tree blocks of 32 cover a side (6.3.1)
+-- how many coding tree blocks of 32 cover a side (PicWidthInCtbsY and PicHeightInCtbsY, 7.4.3.2.1)
 abbrev pub ctus : ℕ → ℕ
 ctus n = (n + 31) / 32
 

@@ -32,7 +32,7 @@ raster size lines = place_values size.w size.h (colour lines)
 
 -- ---- the pictures of a history
 
--- the line that an entry accepts
+-- the line that an entry accepts; of a history that begins a merge there always is one
 abbrev pub accepted_line : List (List Line) → ℕ → ℕ → Line
 accepted_line scripts client index = slice_index_or (slice_index_or scripts client []) index Cut
 
@@ -53,7 +53,7 @@ rasters_after size before (Cut ∷ lines) = raster size before ∷ rasters_after
 abbrev pub pictures : Size → List (List Line) → List Entry → List Raster
 pictures size scripts h = rasters_after size [] (lines_of scripts h)
 
--- ---- the coded picture (6.2: luma, Cb and Cr carry G, B and R, as matrix_coeffs 0 says, Annex E)
+-- ---- the coded picture (6.2: luma, Cb and Cr carry G, B and R, as matrix_coeffs 0 says, E.3.1)
 
 abbrev pub component : ℕ → Rgb → ℕ
 component zero c = c.g
@@ -71,7 +71,7 @@ plane size p c = place_values (coded size.w) (coded size.h) (p c)
 abbrev pub planes : Size → Picture → List (List ℕ)
 planes size p = plane size p 0 ∷ plane size p 1 ∷ plane size p 2 ∷ []
 
--- the picture that three planes store
+-- the picture that three planes store, at places inside its coded area
 unfoldable pub stored_picture : Size → List (List ℕ) → Picture
 stored_picture size ps c x y = slice_index (slice_index_or ps c []) (y * coded size.w + x)
 

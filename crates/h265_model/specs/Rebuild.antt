@@ -1,4 +1,4 @@
--- The samples of a picture from what was read of it (8.4.4.1, 8.6.1, 8.6.8).
+-- The samples of a picture from what was read of it (8.4.1 for PCM, 8.4.4.1, 8.5.3 for skips, 8.6.2 for cu_transquant_bypass_flag, 8.6.7).
 use Rattle.std.specs.Prelude.{ℕ, ◌+◌, ◌*◌, ◌-◌, List, [], ◌∷◌, get_or, if◌then◌else◌, ℤ, pos, ◌+ℤ◌}
 use Rattle.h265_model.specs.declared.leaf.Leaf.{Leaf}
 use Rattle.h265_model.specs.Plain.{Size, Picture}

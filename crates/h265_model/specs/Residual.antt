@@ -1,4 +1,4 @@
--- The residual of one block and component: its items, and their reading (6.5.3, 7.3.8.11, 9.3.4.2.4 to 9.3.4.2.7).
+-- The residual of one block and component: its items, and their reading (6.5.3 to 6.5.5, 7.3.8.11, 9.3.4.2.3 to 9.3.4.2.7).
 use Rattle.std.specs.Prelude.{ℕ, zero, suc, ◌+◌, ◌*◌, ◌/◌, ◌-◌, ◌%◌, ◌^◌, min, Bool, true, false, not, ◌&&◌, ◌||◌, List, [], ◌∷◌, ◌++◌, length, map, reverse, get_or, replicate, ◌==◌, nat_le, nat_lt, if◌then◌else◌, ℤ, pos, negsuc, neg_ℤ, nat_abs, ◌≤◌}
 use Rattle.std.specs.List.{flat_map, filter, list_any, list_all}
 use Rattle.h265_model.specs.declared.Place.TheVariants.{Context, Bypass}
@@ -400,7 +400,7 @@ levels_read s sub inner ended known_flags k = do
 abbrev pub zeros : List ℤ
 zeros = replicate 16 (pos 0)
 
--- the sub-blocks with numbers below n, the greatest first
+-- the sub-blocks before the last one that is coded, the greatest number first
 abbrev pub subs_read : Shape → List Bool → Bool → ℕ → Reader (List (List ℤ))
 subs_read s flags ended zero = give []
 subs_read s flags ended (suc number) =

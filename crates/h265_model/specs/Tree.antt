@@ -1,4 +1,4 @@
--- Coding tree units: their items, and their reading (7.3.8.1 to 7.3.8.7, 9.3.1, 9.3.4.2.2).
+-- Coding tree units: their items, and their reading (7.3.8.1 to 7.3.8.10, 9.3.1, 9.3.4.2.2).
 use Rattle.std.specs.Prelude.{◌≡◌, ℕ, zero, suc, ◌+◌, ◌*◌, ◌%◌, ◌^◌, ◌<◌, Bool, true, false, not, ◌&&◌, ◌⊎◌, List, [], ◌∷◌, ◌++◌, length, map, get_or, take, drop, ◌==◌, nat_le, nat_lt, if◌then◌else◌, Option, Some, None, ℤ, pos, ◌-ℤ◌, MatchBool}
 use Rattle.std.specs.List.{flat_map, find, AllByRecursion}
 use Rattle.std.specs.Bool.{beq}

@@ -1,4 +1,4 @@
--- Wavefront parallel processing as a machine of rows (9.3.1, 9.3.2.4).
+-- Wavefront parallel processing as a machine of rows (9.3.1, 9.3.2.3, 9.3.2.4).
 use Rattle.std.specs.Prelude.{ℕ, zero, suc, ◌+◌, ◌-◌, ◌<◌, Bool, true, false, not, ◌&&◌, ◌||◌, List, [], ◌∷◌, length, set, replicate, fold, count_by, Option, Some, None, ◌==◌, nat_lt, nat_le, slice_index_or, IsTrue, if◌then◌else◌}
 
 -- a row: what was done of it, and how many CTUs are coded
@@ -39,7 +39,7 @@ claimed_count w = count_by (λ s. s.claimed) w.rows
 abbrev pub must_sync : Wave → ℕ → Bool
 must_sync w r = nat_lt 0 r && nat_le 2 w.width
 
--- where an event is lawful
+-- where an event is lawful. Rows are claimed in order, so that the least row not claimed is the number of those claimed
 abbrev pub allows_row : Wave → Event → Bool
 allows_row w (Claim r) = r == claimed_count w && nat_lt r (length w.rows)
 allows_row w (Sync r) =

@@ -24,20 +24,24 @@ pub enum Place {
     Context(u32),
     /// With equal shares for 0 and 1.
     Bypass,
-    /// With the small share that ends a run of bins.
+    /// With a fixed small share for 1, which ends a run of bins.
     Terminate,
 }
 
 /// One binary decision of the arithmetic code.
 #[derive(Clone, Copy, Debug, PartialEq, Eq)]
 pub struct Bin {
+    /// 1 or 0.
     pub value: bool,
+    /// How it is coded.
     pub place: Place,
 }
 
-/// What a slice's data is made of: bins, and the samples of PCM units.
+/// What a slice's data is made of: bins, and the samples of PCM coding units.
 #[derive(Clone, Copy, Debug, PartialEq, Eq)]
 pub enum Item {
+    /// A bin.
     Bin(Bin),
+    /// A sample of 8 bits.
     Sample(u8),
 }

@@ -1,7 +1,12 @@
-//! Planes of samples, and what is painted on them.
+//! Pictures of three planes of samples, and what is painted on them.
 #![tactic(auto)]
 
+mod clip;
+mod picture;
+mod plane;
 mod size;
 
+pub use clip::Clip;
 pub use h265_model::{Job, Line, Pixels, Rect, Rgb};
+pub use picture::Picture;
 pub use size::Size;

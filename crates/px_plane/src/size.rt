@@ -43,6 +43,14 @@ impl Size {
         Some(Size { w, h })
     }
 
+    // A size that is known to be within the limits.
+    pub(crate) fn within(w: u32, h: u32) -> Size
+        requires { IsTrue (is_size (record { w = w; h = h })) }
+        ensures { result ≡ record { w = w; h = h } }
+    {
+        Size { w, h }
+    }
+
     /// The width.
     pub fn w(&self) -> u32
         ensures value { result ≡ self.now.w }

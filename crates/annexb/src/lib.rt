@@ -1,0 +1,9 @@
+//! The byte stream of NAL units (Rec. ITU-T H.265, 7.3.1, 7.4.2 and Annex B), written and read.
+#![tactic(auto)]
+
+mod escaping;
+
+pub use escaping::{append_unit, escape};
+
+#[cfg(test)]
+mod tests;

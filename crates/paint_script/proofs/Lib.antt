@@ -1,0 +1,5 @@
+pub mod Colours
+pub mod Lines
+pub mod Numbers
+pub mod Readings
+pub mod Splits

@@ -1,0 +1,5 @@
+pub mod Answers
+pub mod Paint
+pub mod Refusals
+pub mod Scripts
+pub mod Spellable

@@ -1,0 +1,55 @@
+//! Reading a script.
+ghost use Rattle.std.specs.Prelude.{◌≡◌, ◌<◌, ◌^◌, length, Ok, IfOk, IfErr};
+ghost use Rattle.h265_model.specs.Script.{script_of};
+ghost use Rattle.paint_script.specs.Refusals.{IsRefusal};
+
+use crate::line::{LineError, read_line};
+use crate::script::Script;
+use crate::split::split_once;
+use h265_model::{Cause, NoMemory};
+use std::alloc::Global;
+use thiserror::Error;
+
+/// Why a script isn't read.
+#[derive(Clone, Copy, Debug, PartialEq, Eq, Error)]
+pub enum ScriptError {
+    /// The first line that the grammar doesn't know, counted from 1, and the first cause that applies to it.
+    #[error("line {line} of the script: {cause:?}")]
+    BadLine { line: u32, cause: Cause },
+    /// The allocator refused.
+    #[error("no memory")]
+    NoMemory,
+}
+
+/// Reads a script.
+///
+/// `BadLine` is the first bad line, with the first cause that applies to it. The script takes at most four times the
+/// memory of its text.
+pub fn read_script(alloc: Global, bytes: &[u8]) -> Result<Script, ScriptError>
+    requires { length bytes.now < 2 ^ 32 }
+    ensures read { IfOk result (λ lines. script_of bytes.now ≡ Ok lines) }
+    ensures refused { IfErr result (IsRefusal (script_of bytes.now)) }
+{
+    let mut script = Script::empty(alloc);
+    let mut rest = bytes;
+    while let Some((text, next)) = split_once(rest, b'\n') {
+        match read_line(alloc, text) {
+            Ok(line) => match script.add(line) {
+                Ok(()) => rest = next,
+                Err(NoMemory) => return Err(ScriptError::NoMemory),
+            },
+            Err(LineError::Bad(cause)) => {
+                let line = script.lines() + 1;
+                return Err(ScriptError::BadLine { line, cause });
+            }
+            Err(LineError::NoMemory) => return Err(ScriptError::NoMemory),
+        }
+    }
+    if rest.is_empty() {
+        Ok(script)
+    } else {
+        let line = script.lines() + 1;
+        let cause = Cause::NoLineFeed;
+        Err(ScriptError::BadLine { line, cause })
+    }
+}

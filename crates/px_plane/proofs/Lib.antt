@@ -1,0 +1,6 @@
+pub mod Below
+pub mod Places
+pub mod Rows
+pub mod Shown
+pub mod Painted
+pub mod Tiles

@@ -1,0 +1,97 @@
+-- Painting, as the raster of one more line.
+use Rattle.std.proofs.Common.{◌≡◌, refl, sym, ◌∙◌, ap, subst, ℕ, zero, suc, ◌+◌, ◌*◌, ◌<◌, Bool, true, false, List, [], ◌∷◌, ◌++◌, cond, length, arith}
+use Rattle.std.specs.Prelude.{◌&&◌, nat_lt}
+use Rattle.std.proofs.lemmas.List.Sums.{fold-append}
+use Rattle.h265_model.specs.Plain.{Picture, coded}
+use Rattle.h265_model.specs.Lines.{black as unpainted}
+use Rattle.h265_model.specs.declared.line.Rect.{Rect}
+use Rattle.h265_model.specs.declared.line.Rgb.{Rgb}
+use Rattle.h265_model.specs.declared.line.Line.{Line}
+use Rattle.h265_model.specs.declared.line.Line.TheVariants.{Fill, Blit}
+use Rattle.h265_model.specs.Raster.{colour, raster, component, coded_picture, paints, repainted}
+use Rattle.px_plane.specs.Planes.{Planes, picture_of, IsPicture, Stores, ShowsLines, covers, filled, blitted, pixel_at}
+use Rattle.px_plane.specs.declared.plane.Sides.{Sides}
+use Rattle.px_plane.specs.Rows.{IsPut, IsPartOf, IsPutInto, is_in}
+use Rattle.px_plane.proofs.Shown.{coded_at, stores_from_planes, planes_from_stores}
+
+-- ---- planes
+
+-- what is put into each plane is put into the picture
+pub picture_put : (old new : Planes) (stride : ℕ) (part : Sides) (f : Picture)
+    → new.size ≡ old.size → stride ≡ coded old.size.w
+    → IsPut old.g new.g stride part (f 0) → IsPut old.b new.b stride part (f 1) → IsPut old.r new.r stride part (f 2)
+    → (c x y : ℕ) → c < 3 → x < coded old.size.w → picture_of new c x y ≡ cond (is_in part x y) (f c x y) (picture_of old c x y)
+picture_put old new stride part f same wide g b r zero x y h hx = rw (same, ← wide) (g x y (rw wide hx))
+picture_put old new stride part f same wide g b r (suc zero) x y h hx = rw (same, ← wide) (b x y (rw wide hx))
+picture_put old new stride part f same wide g b r (suc (suc zero)) x y h hx = rw (same, ← wide) (r x y (rw wide hx))
+picture_put old new stride part f same wide g b r (suc (suc (suc c))) x y h hx = absurd (omega arith)
+
+-- the same, of a picture within its limits whose planes keep their lengths
+pub planes_put : (old : Planes) (g b r : List ℕ) (stride : ℕ) (part : Sides) (f : Picture)
+    → IsPicture old → stride ≡ coded old.size.w → length g ≡ length old.g → length b ≡ length old.b → length r ≡ length old.r
+    → IsPut old.g g stride part (f 0) → IsPut old.b b stride part (f 1) → IsPut old.r r stride part (f 2)
+    → IsPutInto old (record { size = old.size; g = g; b = b; r = r }) part f
+planes_put old g b r stride part f is wide lg lb lr pg pb pr = record {
+  size = refl;
+  whole = record { sized = is.sized; g_long = lg ∙ is.g_long; b_long = lb ∙ is.b_long; r_long = lr ∙ is.r_long };
+  each = picture_put old (record { size = old.size; g = g; b = b; r = r }) stride part f refl wide pg pb pr;
+}
+
+-- the samples after a rectangle is painted, the colour of each place by this function
+abbrev pub inked : Planes → Rect → (ℕ → ℕ → Rgb) → Picture
+inked p r ink c x y = cond (covers p.size r x y) (component c (ink x y)) (picture_of p c x y)
+
+-- new samples where a rectangle covers the desktop
+pub part_painted : (old new : Planes) (r : Rect) (part : Sides) (ink : ℕ → ℕ → Rgb)
+    → IsPartOf old.size r part → IsPutInto old new part (λ c x y. component c (ink x y)) → Stores new (inked old r ink)
+part_painted old new r part ink is put = record {
+  each = λ c x y h hx hy.
+      put.each c x y h (let same : new.size ≡ old.size = put.size in rw (← same) hx)
+      ∙ ap (λ (t : Bool). cond t (component c (ink x y)) (picture_of old c x y)) (sym (is.covered x y));
+}
+
+-- nothing is painted where the rectangle covers nothing
+pub nothing_painted : (p : Planes) (r : Rect) (ink : ℕ → ℕ → Rgb) → ((x y : ℕ) → covers p.size r x y ≡ false) → Stores p (inked p r ink)
+nothing_painted p r ink none = record {
+  each = λ c x y h hx hy. ap (λ (t : Bool). cond t (component c (ink x y)) (picture_of p c x y)) (sym (none x y));
+}
+
+-- ---- lines
+
+colour_more : (lines : List Line) (line : Line) (x y : ℕ) → colour (lines ++ line ∷ []) x y ≡ repainted x y (colour lines x y) line
+unfolding colour
+colour_more lines line x y = fold-append (repainted x y) unpainted lines (line ∷ [])
+
+inked_is : (within paint : Bool) (c : ℕ) (ink before : Rgb)
+    → cond (within && paint) (component c ink) (cond within (component c before) 0) ≡ cond within (component c (cond paint ink before)) 0
+inked_is true true c ink before = refl
+inked_is true false c ink before = refl
+inked_is false paint c ink before = refl
+
+-- a picture that is painted shows the raster of one more line
+pub inked_shows : (old new : Planes) (r : Rect) (ink : ℕ → ℕ → Rgb) (line : Line) (lines : List Line)
+    → new.size ≡ old.size → IsPicture new
+    → ((x y : ℕ) (before : Rgb) → repainted x y before line ≡ cond (paints r x y) (ink x y) before)
+    → Stores new (inked old r ink) → ShowsLines old lines → ShowsLines new (lines ++ line ∷ [])
+inked_shows old new r ink line lines same is line_is painted shown =
+    let was : Stores old (coded_picture old.size (raster old.size lines)) = stores_from_planes old (coded_picture old.size (raster old.size lines)) shown.stored in
+    record {
+      stored = planes_from_stores new (coded_picture new.size (raster new.size (lines ++ line ∷ []))) is (record {
+        each = λ c x y h hx hy.
+            let within : Bool = nat_lt x old.size.w && nat_lt y old.size.h in
+            let before : Rgb = colour lines x y in
+            painted.each c x y h hx hy
+            ∙ (ap (λ (s : ℕ). cond (covers old.size r x y) (component c (ink x y)) s) (was.each c x y h (rw (← same) hx) (rw (← same) hy) ∙ coded_at old.size lines c x y)
+            ∙ (inked_is within (paints r x y) c (ink x y) before
+            ∙ (ap (λ (v : Rgb). cond within (component c v) 0) (sym (colour_more lines line x y ∙ line_is x y before))
+            ∙ sym (ap (λ (size : _). coded_picture size (raster size (lines ++ line ∷ [])) c x y) same ∙ coded_at old.size (lines ++ line ∷ []) c x y))));
+      });
+    }
+
+pub fill_shows : (old new : Planes) (r : Rect) (ink : Rgb) (lines : List Line) → new.size ≡ old.size → IsPicture new
+    → Stores new (filled old r ink) → ShowsLines old lines → ShowsLines new (lines ++ Fill r ink ∷ [])
+fill_shows old new r ink lines same is painted shown = inked_shows old new r (λ x y. ink) (Fill r ink) lines same is (λ x y before. refl) painted shown
+
+pub blit_shows : (old new : Planes) (r : Rect) (pixels : List Rgb) (lines : List Line) → new.size ≡ old.size → IsPicture new
+    → Stores new (blitted old r pixels) → ShowsLines old lines → ShowsLines new (lines ++ Blit r pixels ∷ [])
+blit_shows old new r pixels lines same is painted shown = inked_shows old new r (pixel_at r pixels) (Blit r pixels) lines same is (λ x y before. refl) painted shown

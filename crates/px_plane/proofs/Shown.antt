@@ -1,0 +1,132 @@
+-- What a picture shows, and the samples that it stores.
+use Rattle.std.proofs.Common.{◌≡◌, refl, sym, ◌∙◌, ap, ℕ, zero, suc, ◌+◌, ◌*◌, ◌<◌, ◌≤◌, Bool, true, false, List, [], ◌∷◌, length, get_or, cond, replicate, arith}
+use Rattle.std.specs.Prelude.{◌&&◌, nat_lt, IsTrue, fold}
+use Rattle.std.proofs.lemmas.Bool.{ltb-true, and_parts}
+use Rattle.std.proofs.lemmas.Bool.Decides.{nat_tests}
+use Rattle.std.proofs.lemmas.List.{get_or-replicate, length-replicate}
+use Rattle.h265_model.specs.Plain.{Size, Picture, coded, place_values}
+use Rattle.h265_model.specs.Words.{is_size, most_area}
+use Rattle.h265_model.specs.Lines.{black as unpainted}
+use Rattle.h265_model.specs.declared.line.Line.{Line}
+use Rattle.h265_model.specs.Raster.{Raster, colour, raster, component, coded_picture, plane, planes, stored_picture}
+use Rattle.px_plane.specs.Planes.{Planes, plane_of, planes_of, picture_of, IsPicture, Stores, Shows, ShowsLines, black}
+use Rattle.px_plane.proofs.Places.{at_places, places_are}
+
+-- ---- sizes
+
+-- the limits of a size as numbers
+pub record InLimits (size : Size) : Type 0 where
+  pub w_low : 1 ≤ size.w
+  pub w_high : size.w ≤ 4096
+  pub h_low : 1 ≤ size.h
+  pub h_high : size.h ≤ 4096
+
+pub in_limits : (size : Size) → IsTrue (is_size size) → InLimits size
+in_limits size h = record {
+  w_low = grind (arith, nat_tests);
+  w_high = grind (arith, nat_tests);
+  h_low = grind (arith, nat_tests);
+  h_high = grind (arith, nat_tests);
+}
+
+-- ---- the samples of the planes
+
+-- the picture is the one that its planes store
+pub stored_at : (p : Planes) (c x y : ℕ) → picture_of p c x y ≡ stored_picture p.size (planes_of p) c x y
+unfolding stored_picture
+stored_at p zero x y = refl
+stored_at p (suc zero) x y = refl
+stored_at p (suc (suc zero)) x y = refl
+stored_at p (suc (suc (suc c))) x y = refl
+
+pub picture_is_stored : (p : Planes) → picture_of p ≡ stored_picture p.size (planes_of p)
+picture_is_stored p = λ i. λ c x y. stored_at p c x y i
+
+-- a picture that shows a raster is the one that the planes of its coded picture store
+pub shown_is_stored : (p : Planes) (shown : Raster) → Shows p shown → picture_of p ≡ stored_picture p.size (planes p.size (coded_picture p.size shown))
+shown_is_stored p shown is = picture_is_stored p ∙ ap (stored_picture p.size) is.stored
+
+plane_stored : (p : Planes) (picture : Picture) (c : ℕ) → plane_of p c ≡ plane p.size picture c → (x y : ℕ) → x < coded p.size.w → y < coded p.size.h → picture_of p c x y ≡ picture c x y
+plane_stored p picture c same x y hx hy =
+    ap (λ (l : List ℕ). get_or l (y * coded p.size.w + x) 0) same ∙ at_places (coded p.size.w) (coded p.size.h) x y (picture c) 0 hx hy
+
+-- planes of a picture store its samples
+pub stores_from_planes : (p : Planes) (picture : Picture) → planes_of p ≡ planes p.size picture → Stores p picture
+stores_from_planes p picture same = record { each = λ c x y h hx hy. go c x y h hx hy }
+  where
+    g : p.g ≡ plane p.size picture 0
+    g = cc
+
+    b : p.b ≡ plane p.size picture 1
+    b = cc
+
+    r : p.r ≡ plane p.size picture 2
+    r = cc
+
+    go : (c x y : ℕ) → c < 3 → x < coded p.size.w → y < coded p.size.h → picture_of p c x y ≡ picture c x y
+    go zero x y h hx hy = plane_stored p picture 0 g x y hx hy
+    go (suc zero) x y h hx hy = plane_stored p picture 1 b x y hx hy
+    go (suc (suc zero)) x y h hx hy = plane_stored p picture 2 r x y hx hy
+    go (suc (suc (suc c))) x y h hx hy = absurd (omega arith)
+
+-- what stores the samples of a picture has its planes
+pub planes_from_stores : (p : Planes) (picture : Picture) → IsPicture p → Stores p picture → planes_of p ≡ planes p.size picture
+planes_from_stores p picture is s =
+    let limits : InLimits p.size = in_limits p.size is.sized in
+    let some : 0 < coded p.size.w = let low : 1 ≤ p.size.w = limits.w_low in omega arith in
+    let w : ℕ = coded p.size.w in
+    let h : ℕ = coded p.size.h in
+    let g : p.g ≡ place_values w h (picture 0) = places_are w h p.g (picture 0) 0 some is.g_long (λ x y hx hy. s.each 0 x y (omega arith) hx hy) in
+    let b : p.b ≡ place_values w h (picture 1) = places_are w h p.b (picture 1) 0 some is.b_long (λ x y hx hy. s.each 1 x y (omega arith) hx hy) in
+    let r : p.r ≡ place_values w h (picture 2) = places_are w h p.r (picture 2) 0 some is.r_long (λ x y hx hy. s.each 2 x y (omega arith) hx hy) in
+    cc
+
+-- ---- rasters
+
+-- the samples of the raster of some lines
+pub coded_at : (size : Size) (lines : List Line) (c x y : ℕ)
+    → coded_picture size (raster size lines) c x y ≡ cond (nat_lt x size.w && nat_lt y size.h) (component c (colour lines x y)) 0
+unfolding coded_picture raster
+coded_at size lines c x y = go (nat_lt x size.w && nat_lt y size.h) refl
+  where
+    go : (b : Bool) → (nat_lt x size.w && nat_lt y size.h) ≡ b
+        → cond b (component c (get_or (place_values size.w size.h (colour lines)) (y * size.w + x) unpainted)) 0 ≡ cond b (component c (colour lines x y)) 0
+    go true e =
+        let t = and_parts (nat_lt x size.w) (nat_lt y size.h) e in
+        ap (component c) (at_places size.w size.h x y (colour lines) unpainted (ltb-true x size.w t.0) (ltb-true y size.h t.1))
+    go false e = refl
+
+-- ---- a black picture
+
+zero_in : (n i : ℕ) → let zero_sample : ℕ = 0 in get_or (replicate n zero_sample) i 0 ≡ 0
+zero_in zero i = refl
+zero_in (suc n) zero = refl
+zero_in (suc n) (suc i) = zero_in n i
+
+zeros_at : (size : Size) (c x y : ℕ) → picture_of (black size) c x y ≡ 0
+zeros_at size zero x y = zero_in (coded size.w * coded size.h) (y * coded size.w + x)
+zeros_at size (suc zero) x y = zero_in (coded size.w * coded size.h) (y * coded size.w + x)
+zeros_at size (suc (suc zero)) x y = zero_in (coded size.w * coded size.h) (y * coded size.w + x)
+zeros_at size (suc (suc (suc c))) x y = refl
+
+pub black_whole : (size : Size) → IsTrue (is_size size) → IsPicture (black size)
+black_whole size sized =
+    let zero_sample : ℕ = 0 in
+    let area : ℕ = coded size.w * coded size.h in
+    record { sized = sized; g_long = length-replicate area zero_sample; b_long = length-replicate area zero_sample; r_long = length-replicate area zero_sample }
+
+black_coded : (size : Size) (c x y : ℕ) → coded_picture size (raster size []) c x y ≡ 0
+unfolding colour
+black_coded size c x y = coded_at size [] c x y ∙ go c (nat_lt x size.w && nat_lt y size.h)
+  where
+    go : (c : ℕ) (b : Bool) → cond b (component c unpainted) 0 ≡ 0
+    go zero true = refl
+    go (suc zero) true = refl
+    go (suc (suc c)) true = refl
+    go c false = refl
+
+pub black_shows : (size : Size) → IsTrue (is_size size) → ShowsLines (black size) []
+black_shows size sized = record {
+  stored = planes_from_stores (black size) (coded_picture size (raster size [])) (black_whole size sized)
+      (record { each = λ c x y h hx hy. zeros_at size c x y ∙ sym (black_coded size c x y) });
+}

@@ -1,0 +1,51 @@
+-- Parts of planes, and what a write to one leaves.
+use Rattle.std.specs.Prelude.{◌≡◌, ◌<◌, ◌≤◌, ℕ, ◌+◌, ◌*◌, ◌-◌, Bool, ◌&&◌, List, nat_le, nat_lt, slice_index, if◌then◌else◌}
+use Rattle.h265_model.specs.Plain.{Size, Picture, coded}
+use Rattle.h265_model.specs.declared.line.Rect.{Rect}
+use Rattle.px_plane.specs.declared.plane.Sides.{Sides}
+use Rattle.px_plane.specs.Planes.{Planes, IsPicture, picture_of, covers}
+
+-- the place is in the rectangle between these sides
+abbrev pub is_between : ℕ → ℕ → ℕ → ℕ → ℕ → ℕ → Bool
+is_between left right top bottom x y = nat_le left x && nat_lt x right && nat_le top y && nat_lt y bottom
+
+abbrev pub is_in : Sides → ℕ → ℕ → Bool
+is_in part x y = is_between part.left part.right part.top part.bottom x y
+
+-- between the sides a plane has new values, and is else as before
+abbrev pub IsPutBetween : List ℕ → List ℕ → ℕ → ℕ → ℕ → ℕ → ℕ → (ℕ → ℕ → ℕ) → Type 0
+IsPutBetween before after stride left right top bottom f =
+    (x y : ℕ) → x < stride → slice_index after (y * stride + x) ≡ (if is_between left right top bottom x y then f x y else slice_index before (y * stride + x))
+
+abbrev pub IsPut : List ℕ → List ℕ → ℕ → Sides → (ℕ → ℕ → ℕ) → Type 0
+IsPut before after stride part f = IsPutBetween before after stride part.left part.right part.top part.bottom f
+
+-- the sample of a place in a part of a tile, whose samples are those of G, B and R, each in rows of 32
+abbrev pub sample_at : Sides → List ℕ → Picture
+sample_at part samples c x y = slice_index samples (c * 1024 + ((y - part.top) * 32 + (x - part.left)))
+
+-- the part lies in the coded picture
+pub record IsWithin (size : Size) (part : Sides) : Type 0 where
+  pub across : part.left ≤ part.right
+  pub wide : part.right ≤ coded size.w
+  pub down : part.top ≤ part.bottom
+  pub tall : part.bottom ≤ coded size.h
+
+-- the part begins where the rectangle does, and doesn't go beyond it
+pub record IsPlaced (r : Rect) (part : Sides) : Type 0 where
+  pub left : part.left ≡ r.x
+  pub right : part.right ≤ r.x + r.w
+  pub top : part.top ≡ r.y
+  pub bottom : part.bottom ≤ r.y + r.h
+
+-- the part is where the rectangle covers the desktop
+pub record IsPartOf (size : Size) (r : Rect) (part : Sides) : Type 0 where
+  pub within : IsWithin size part
+  pub placed : IsPlaced r part
+  pub covered : (x y : ℕ) → covers size r x y ≡ is_in part x y
+
+-- a picture after new samples were put into a part
+pub record IsPutInto (old new : Planes) (part : Sides) (f : Picture) : Type 0 where
+  pub size : new.size ≡ old.size
+  pub whole : IsPicture new
+  pub each : (c x y : ℕ) → c < 3 → x < coded old.size.w → picture_of new c x y ≡ (if is_in part x y then f c x y else picture_of old c x y)

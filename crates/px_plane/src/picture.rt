@@ -1,0 +1,262 @@
+//! Pictures of three planes.
+ghost use Rattle.std.specs.Prelude.{◌≡◌, ℕ, ◌+◌, ◌*◌, ◌<◌, ◌≤◌, map, length, IfOk, IfSome, IsNone, IsTrue, false, List, ◌++◌, ◌∷◌, []};
+ghost use Rattle.h265_model.specs.Plain.{coded, ctus, below};
+ghost use Rattle.h265_model.specs.Words.{is_size};
+ghost use Rattle.h265_model.specs.declared.line.Line.{Line};
+ghost use Rattle.h265_model.specs.Raster.{Raster, component, coded_picture};
+ghost use Rattle.h265_model.specs.Desk.{tile_count, job_for};
+ghost use Rattle.px_plane.specs.Planes.{black, picture_of, plane_of, covers, filled, blitted, pixel_at, IsPicture, Stores, Shows, ShowsLines};
+ghost use Rattle.px_plane.specs.Tiles.{laid, IsJobOf, DiffersOnlyIn, IsTilePart, IsTileLaid};
+ghost use Rattle.px_plane.specs.Rows.{IsWithin, IsPartOf, IsPutInto, sample_at};
+
+use crate::clip::Clip;
+use crate::plane::{Sides, blit_plane, fill_plane, lay_plane};
+use crate::{Job, Rect, Rgb, Size};
+use h265_model::NoMemory;
+use std::alloc::Global;
+use std::marker::Model;
+
+/// A picture: its size, and its planes G, B and R, which H.265 calls luma, Cb and Cr.
+///
+/// Each plane has one byte for each place of the coded size, which is the size rounded up to
+/// multiples of 8 (7.4.3.2.1), in rows from the top.
+#[derive(Debug, Drop)]
+pub struct Picture {
+    w: u32,
+    h: u32,
+    g: Vec<u8>,
+    b: Vec<u8>,
+    r: Vec<u8>,
+}
+
+impl Model for Picture {
+    ghost use Rattle.px_plane.specs.Planes.{Planes, IsPicture};
+
+    ghost Value = { Planes };
+
+    ghost view = { λ p. record { size = record { w = p.w; h = p.h }; g = p.g.items; b = p.b.items; r = p.r.items } };
+
+    ghost invariant = { λ p. IsPicture (record { size = record { w = p.w; h = p.h }; g = p.g.items; b = p.b.items; r = p.r.items }) };
+}
+
+// A side rounded up to a multiple of 8.
+fn coded_side(side: u32) -> u32
+    requires { side ≤ 4096 }
+    ensures value { result ≡ coded side }
+    ensures bound { result ≤ 4096 }
+{
+    (side + 7) / 8 * 8
+}
+
+impl Picture {
+    /// A picture of zeros, which shows a desktop on which nothing was painted.
+    ///
+    /// # Errors
+    ///
+    /// `NoMemory` where the allocator refuses one of the planes.
+    pub fn black(alloc: Global, size: Size) -> Result<Picture, NoMemory>
+        ensures value { IfOk result (λ p. p ≡ black size) }
+        ensures shows { IfOk result (λ p. ShowsLines p []) }
+    {
+        let area = coded_side(size.w()) as usize * coded_side(size.h()) as usize;
+        let g = vec![in alloc; 0; area]?;
+        let b = vec![in alloc; 0; area]?;
+        let r = vec![in alloc; 0; area]?;
+        Ok(Picture {
+            w: size.w(),
+            h: size.h(),
+            g,
+            b,
+            r,
+        })
+    }
+
+    /// The size of the desktop.
+    pub fn size(&self) -> Size
+        ensures value { result ≡ self.now.size }
+        ensures within { IsTrue (is_size result) }
+    {
+        Size::within(self.w, self.h)
+    }
+
+    /// The plane of a component (0 for G, 1 for B, 2 for R): the samples of the coded size, in rows from the top.
+    pub fn plane(&self, component: u32) -> &[u8]
+        requires { component < 3 }
+        ensures plane { result.now ≡ plane_of self.now component }
+        ensures area { length result.now ≡ coded self.now.size.w * coded self.now.size.h }
+        ensures narrow { self.now.size.w ≤ 4096 }
+    {
+        match component {
+            0 => &self.g,
+            1 => &self.b,
+            _ => &self.r,
+        }
+    }
+
+    /// The sample of a component (0 for G, 1 for B, 2 for R) at a place of the coded picture.
+    pub fn sample(&self, component: u32, x: u32, y: u32) -> u8
+        requires component { component < 3 }
+        requires across { x < coded self.now.size.w }
+        requires down { y < coded self.now.size.h }
+        ensures { result ≡ picture_of self.now component x y }
+    {
+        let plane = self.plane(component);
+        let stride = coded_side(self.w) as usize;
+        plane[y as usize * stride + x as usize]
+    }
+
+    /// The samples of a component (0 for G, 1 for B, 2 for R) at `n` places of a row, from (x, y) on.
+    pub fn row(&self, component: u32, x: u32, y: u32, n: u32) -> &[u8]
+        requires component { component < 3 }
+        requires across { x + n ≤ coded self.now.size.w }
+        requires down { y < coded self.now.size.h }
+        ensures samples { result.now ≡ map (λ i. picture_of self.now component (x + i) y) (below n) }
+        ensures count { length result.now ≡ n }
+    {
+        let plane = self.plane(component);
+        let stride = coded_side(self.w) as usize;
+        let at = y as usize * stride + x as usize;
+        &plane[at..at + n as usize]
+    }
+
+    /// An equal picture.
+    ///
+    /// # Errors
+    ///
+    /// `NoMemory` where the allocator refuses one of the planes.
+    pub fn twin(&self) -> Result<Picture, NoMemory>
+        ensures { IfOk result (λ p. p ≡ self.now) }
+    {
+        Ok(Picture {
+            w: self.w,
+            h: self.h,
+            g: self.g.clone()?,
+            b: self.b.clone()?,
+            r: self.r.clone()?,
+        })
+    }
+
+    // The part of the picture where a rectangle covers the desktop.
+    fn part(&self, rect: Rect) -> Option<Sides>
+        ensures part { IfSome result (IsPartOf self.now.size rect) }
+        ensures nothing { IsNone result → (x y : ℕ) → covers self.now.size rect x y ≡ false }
+        ensures whole { IsPicture self.now }
+    {
+        Some(Sides::of(rect.clip(Size::within(self.w, self.h))?))
+    }
+
+    // Puts one colour into a part.
+    fn fill_part(&mut self, part: Sides, colour: Rgb)
+        requires { IsWithin self.old.size part }
+        ensures { IsPutInto self.old self.new part (λ c x y. component c colour) }
+    {
+        let stride = coded_side(self.w) as usize;
+        fill_plane(&mut self.g, stride, part, colour.g);
+        fill_plane(&mut self.b, stride, part, colour.b);
+        fill_plane(&mut self.r, stride, part, colour.r);
+    }
+
+    /// Paints the part of a rectangle that lies in the desktop with one colour.
+    pub fn fill(&mut self, rect: Rect, colour: Rgb)
+        ensures size { self.new.size ≡ self.old.size }
+        ensures painted { Stores self.new (filled self.old rect colour) }
+        ensures shows { (lines : List Line) → ShowsLines self.old lines → ShowsLines self.new (lines ++ Line.Fill rect colour ∷ []) }
+    {
+        if let Some(part) = self.part(rect) {
+            self.fill_part(part, colour);
+        }
+    }
+
+    // Puts the pixels of a rectangle into the part that it covers.
+    fn blit_part(&mut self, part: Sides, rect: Rect, pixels: &[Rgb])
+        requires part { IsPartOf self.old.size rect part }
+        requires pixels { length pixels.now ≡ rect.w * rect.h }
+        ensures { IsPutInto self.old self.new part (λ c x y. component c (pixel_at rect pixels.now x y)) }
+    {
+        let stride = coded_side(self.w) as usize;
+        blit_plane(&mut self.g, stride, part, rect, pixels, 0);
+        blit_plane(&mut self.b, stride, part, rect, pixels, 1);
+        blit_plane(&mut self.r, stride, part, rect, pixels, 2);
+    }
+
+    /// Paints the part of a rectangle that lies in the desktop with pixels.
+    ///
+    /// The pixels are those of the whole rectangle, in rows from the top.
+    pub fn blit(&mut self, rect: Rect, pixels: &[Rgb])
+        requires { length pixels.now ≡ rect.w * rect.h }
+        ensures size { self.new.size ≡ self.old.size }
+        ensures painted { Stores self.new (blitted self.old rect pixels.now) }
+        ensures shows { (lines : List Line) → ShowsLines self.old lines → ShowsLines self.new (lines ++ Line.Blit rect pixels.now ∷ []) }
+    {
+        if let Some(part) = self.part(rect) {
+            self.blit_part(part, rect, pixels);
+        }
+    }
+
+    // How many tiles stand side by side.
+    fn tiles_across(&self) -> u32
+        ensures value { result ≡ ctus self.now.size.w }
+        ensures whole { IsPicture self.now }
+    {
+        (self.w + 31) / 32
+    }
+
+    // The part of the coded picture that lies in a tile, where `across` tiles stand side by side.
+    fn tile_part(&self, tile: u32, across: u32) -> Sides
+        requires across { across ≡ ctus self.now.size.w }
+        requires tile { tile < tile_count self.now.size }
+        ensures { IsTilePart self.now.size tile result }
+    {
+        let left = (tile % across) as usize * 32;
+        let top = (tile / across) as usize * 32;
+        Sides {
+            left,
+            right: (left + 32).min(coded_side(self.w) as usize),
+            top,
+            bottom: (top + 32).min(coded_side(self.h) as usize),
+        }
+    }
+
+    // Puts the samples of a tile into the part that lies in it.
+    fn lay_part(&mut self, part: Sides, samples: &[u8])
+        requires within { IsWithin self.old.size part }
+        requires narrow { part.right ≤ part.left + 32 }
+        requires low { part.bottom ≤ part.top + 32 }
+        requires samples { length samples.now ≡ 3072 }
+        ensures { IsPutInto self.old self.new part (sample_at part samples.now) }
+    {
+        let stride = coded_side(self.w) as usize;
+        lay_plane(&mut self.g, stride, part, samples, 0);
+        lay_plane(&mut self.b, stride, part, samples, 1);
+        lay_plane(&mut self.r, stride, part, samples, 2);
+    }
+
+    // Lays one tile, where `across` tiles stand side by side.
+    fn lay_tile(&mut self, tile: u32, across: u32, samples: &[u8])
+        requires across { across ≡ ctus self.old.size.w }
+        requires tile { tile < tile_count self.old.size }
+        requires samples { length samples.now ≡ 3072 }
+        ensures { IsTileLaid self.old self.new tile samples.now }
+    {
+        let part = self.tile_part(tile, across);
+        self.lay_part(part, samples);
+    }
+
+    /// Puts each listed tile of a job in its place.
+    ///
+    /// What a tile has outside the coded picture is dropped.
+    pub fn lay(&mut self, job: &Job)
+        requires { IsJobOf self.old.size job.now }
+        ensures size { self.new.size ≡ self.old.size }
+        ensures laid { Stores self.new (laid self.old job.now) }
+        ensures shows { (shown : Raster) → job.now ≡ job_for self.old.size job.now.number job.now.tiles shown
+            → DiffersOnlyIn job.now.tiles self.old (coded_picture self.old.size shown) → Shows self.new shown }
+    {
+        let (tiles, samples) = (job.tiles.as_slice(), job.samples.as_slice());
+        let across = self.tiles_across();
+        for k in 0..tiles.len() {
+            let at = k * 3072;
+            self.lay_tile(tiles[k], across, &samples[at..at + 3072]);
+        }
+    }
+}

@@ -1,0 +1,140 @@
+//! Writes to a part of one plane.
+ghost use Rattle.std.specs.Prelude.{◌≡◌, ℕ, ◌+◌, ◌*◌, ◌-◌, ◌<◌, ◌≤◌, length, slice_index, slice_index_or};
+ghost use Rattle.h265_model.specs.Lines.{black};
+ghost use Rattle.h265_model.specs.Raster.{component};
+ghost use Rattle.px_plane.specs.Planes.{pixel_at};
+ghost use Rattle.px_plane.specs.Rows.{IsPut, IsPlaced, sample_at};
+
+use crate::{Rect, Rgb};
+
+/// The sides of a part of a plane: it has the columns from `left` up to `right`, and the rows from `top` up to `bottom`.
+#[derive(Clone, Copy)]
+pub(crate) struct Sides {
+    pub left: usize,
+    pub right: usize,
+    pub top: usize,
+    pub bottom: usize,
+}
+
+impl Sides {
+    /// The sides of a rectangle.
+    pub(crate) fn of(rect: Rect) -> Sides
+        ensures left { result.left ≡ rect.x }
+        ensures right { result.right ≡ rect.x + rect.w }
+        ensures top { result.top ≡ rect.y }
+        ensures bottom { result.bottom ≡ rect.y + rect.h }
+    {
+        Sides {
+            left: rect.x as usize,
+            right: rect.x as usize + rect.w as usize,
+            top: rect.y as usize,
+            bottom: rect.y as usize + rect.h as usize,
+        }
+    }
+}
+
+/// Gives one value to the places of a part, in rows of `stride`.
+pub(crate) fn fill_plane(plane: &mut [u8], stride: usize, part: Sides, value: u8)
+    requires across { part.left ≤ part.right }
+    requires wide { part.right ≤ stride }
+    requires down { part.top ≤ part.bottom }
+    requires tall { part.bottom * stride ≤ length plane.old }
+    ensures { IsPut plane.old plane.new stride part (λ x y. value) }
+{
+    let Sides {
+        left,
+        right,
+        top,
+        bottom,
+    } = part;
+    for y in top..bottom {
+        let at = y * stride;
+        plane[at + left..at + right].fill(value);
+    }
+}
+
+// A component of a colour: 0 for G, 1 for B, 2 for R.
+#[inline(always)]
+fn component_of(colour: Rgb, number: u32) -> u8
+    requires { number < 3 }
+    ensures { result ≡ component number colour }
+{
+    match number {
+        0 => colour.g,
+        1 => colour.b,
+        _ => colour.r,
+    }
+}
+
+// Gives a row one component of as many pixels.
+#[inline(always)]
+fn blit_row(row: &mut [u8], pixels: &[Rgb], number: u32)
+    requires component { number < 3 }
+    requires as_many { length row.old ≡ length pixels.now }
+    ensures { (i : ℕ) → i < length pixels.now → slice_index row.new i ≡ component number (slice_index_or pixels.now i black) }
+{
+    for i in 0..row.len() {
+        row[i] = component_of(pixels[i], number);
+    }
+}
+
+/// Gives a part one component of the pixels of a rectangle, from the rectangle's first place on.
+#[inline(always)]
+pub(crate) fn blit_plane(
+    plane: &mut [u8],
+    stride: usize,
+    part: Sides,
+    rect: Rect,
+    pixels: &[Rgb],
+    number: u32,
+)
+    requires component { number < 3 }
+    requires across { part.left ≤ part.right }
+    requires wide { part.right ≤ stride }
+    requires down { part.top ≤ part.bottom }
+    requires tall { part.bottom * stride ≤ length plane.old }
+    requires placed { IsPlaced rect part }
+    requires pixels { length pixels.now ≡ rect.w * rect.h }
+    ensures { IsPut plane.old plane.new stride part (λ x y. component number (pixel_at rect pixels.now x y)) }
+{
+    let Sides {
+        left,
+        right,
+        top,
+        bottom,
+    } = part;
+    for y in top..bottom {
+        let at = y * stride;
+        let from = (y - top) * rect.w as usize;
+        blit_row(
+            &mut plane[at + left..at + right],
+            &pixels[from..from + (right - left)],
+            number,
+        );
+    }
+}
+
+/// Gives a part the samples of one component of a tile, from the component's first sample on.
+pub(crate) fn lay_plane(plane: &mut [u8], stride: usize, part: Sides, samples: &[u8], number: usize)
+    requires component { number < 3 }
+    requires across { part.left ≤ part.right }
+    requires wide { part.right ≤ stride }
+    requires down { part.top ≤ part.bottom }
+    requires tall { part.bottom * stride ≤ length plane.old }
+    requires narrow { part.right ≤ part.left + 32 }
+    requires low { part.bottom ≤ part.top + 32 }
+    requires samples { length samples.now ≡ 3072 }
+    ensures { IsPut plane.old plane.new stride part (λ x y. sample_at part samples.now number x y) }
+{
+    let Sides {
+        left,
+        right,
+        top,
+        bottom,
+    } = part;
+    for y in top..bottom {
+        let at = y * stride;
+        let from = number * 1024 + (y - top) * 32;
+        plane[at + left..at + right].copy_from_slice(&samples[from..from + (right - left)]);
+    }
+}

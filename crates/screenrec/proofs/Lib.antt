@@ -1,0 +1,2 @@
+pub mod PcmLaw
+pub mod StoredLaws

@@ -1,0 +1,216 @@
+-- What the words `serial` and `record` promise. The two differ in the order of the clients' lines alone.
+use Rattle.std.specs.Prelude.{◌≡◌, ◌≢◌, ◌⊎◌, ◌==◌, ◌&&◌, not, if◌then◌else◌, ℕ, ◌<◌, ◌++◌, List, [], ◌∷◌, length, take, Option, Some, None, Result, Ok, Err, IsOk}
+use Rattle.h265_model.specs.declared.entry.Entry.{Entry}
+use Rattle.h265_model.specs.declared.line.Line.{Line}
+use Rattle.h265_model.specs.Words.{Settings, SerialWords, RecordWords, Row, Record, Serial, Demo, Decode}
+use Rattle.h265_model.specs.Raster.{pictures}
+use Rattle.h265_model.specs.Histories.{IsLawful, Merges, own_order}
+use Rattle.h265_model.specs.Turn.{StartsWith}
+use Rattle.h265_model.specs.Files.{Files, IsPrefix}
+use Rattle.h265_model.specs.Headline.{Refusal, TooLarge, BadPaint, Limit, scripts_of, contents, IsPlayed, IsRecorded, IsUntouched, IsCutShort, report_of}
+use Rattle.screenrec.specs.declared.outcome.Status.{Status}
+use Rattle.screenrec.specs.declared.outcome.Status.TheVariants as status
+use Rattle.screenrec.specs.declared.outcome.Form.{Form}
+use Rattle.screenrec.specs.declared.outcome.Form.TheVariants.{Command, Size, Effort, Key}
+use Rattle.screenrec.specs.Answers.{Counts, NoneRose}
+
+-- ---- the order of a recording
+
+-- how scripts are played: one alone, or those of several clients together
+pub data Playing : Type 0 where
+  Alone : Playing
+  Together : Playing
+
+-- the orders of a whole recording: the one script's own, or any in which the clients' lines were accepted
+abbrev pub IsOrder : Playing → List (List Line) → List Entry → Type 0
+IsOrder Alone scripts order = order ≡ own_order scripts
+IsOrder Together scripts order = IsPlayed scripts order
+
+-- the orders after a fault of the stream: all lines were played
+abbrev pub IsPlayedOut : Playing → List (List Line) → List Entry → Type 0
+IsPlayedOut Alone scripts order = order ≡ own_order scripts
+IsPlayedOut Together scripts order = Merges scripts order
+
+-- the orders after want of memory: some lines were played
+abbrev pub IsPlayedInPart : Playing → List (List Line) → List Entry → Type 0
+IsPlayedInPart Alone scripts order = StartsWith (own_order scripts) order
+IsPlayedInPart Together scripts order = Unit {0}
+
+-- ---- what is recorded
+
+-- how, into which file, from which files, and in which manner they are played
+pub record Task : Type 0 where
+  pub settings : Settings
+  pub out : List ℕ
+  pub files : List (List ℕ)
+  pub playing : Playing
+
+abbrev pub serial_task : SerialWords → Task
+serial_task words = record { settings = words.settings; out = words.out; files = words.file ∷ []; playing = Alone }
+
+abbrev pub record_task : RecordWords → Task
+record_task words = record { settings = words.settings; out = words.out; files = words.files; playing = Together }
+
+-- the scripts of the files, or the first refusal
+abbrev pub scripts_in : Task → Files → Result (List (List Line)) Refusal
+scripts_in task before = scripts_of (contents before task.files)
+
+-- ---- what stands after each status
+
+module _ (task : Task) (before after : Files) (order : List Entry) (written : ℕ) where
+  -- The scripts were accepted and played, and OUT is the stream of the pictures of the order.
+  pub record IsFinished : Type 0 where
+    pub scripts : List (List Line)
+    pub accepted : scripts_in task before ≡ Ok scripts
+    pub played : IsOrder task.playing scripts order
+    pub recorded : IsRecorded task.settings task.out (pictures task.settings.size scripts order) before after written
+
+  -- The scripts were accepted, and OUT is a part of the stream of the pictures of the order.
+  pub record IsBroken (Played : List (List Line) → List Entry → Type 0) : Type 0 where
+    pub scripts : List (List Line)
+    pub accepted : scripts_in task before ≡ Ok scripts
+    pub lawful : IsLawful scripts order
+    pub played : Played scripts order
+    pub cut_short : IsCutShort task.settings task.out (pictures task.settings.size scripts order) before after written
+
+  -- OUT wasn't made: the scripts were accepted, and nothing was recorded.
+  pub record IsNotMade : Type 0 where
+    pub accepted : IsOk (scripts_in task before)
+    pub untouched : IsUntouched order before after written
+
+  -- The scripts were refused so, and nothing was recorded.
+  pub record IsRefused (refusal : Refusal) : Type 0 where
+    pub refused : scripts_in task before ≡ Err refusal
+    pub untouched : IsUntouched order before after written
+
+  -- The files before this one are accepted, and nothing was recorded.
+  pub record IsUnread (file : ℕ) : Type 0 where
+    pub accepted : IsOk (scripts_of (take file (contents before task.files)))
+    pub untouched : IsUntouched order before after written
+
+  -- what a status says of the scripts, the order and the files
+  abbrev pub LeavesTask : Status → Type 0
+  LeavesTask status.Ok = IsFinished
+  LeavesTask status.Usage = ⊥
+  LeavesTask (status.BadPaint file line cause) = IsRefused (BadPaint file line cause)
+  LeavesTask (status.Limit which) = IsRefused (Limit which)
+  LeavesTask (status.InputFault file) = IsUnread file
+  LeavesTask status.SinkFault = IsNotMade ⊎ IsBroken (IsPlayedOut task.playing)
+  LeavesTask status.ReportFault = IsFinished
+  LeavesTask status.NoMemory = IsUntouched order before after written ⊎ IsBroken (IsPlayedInPart task.playing)
+  LeavesTask (status.TooLarge file) = IsRefused (TooLarge file)
+  LeavesTask (status.BadStream at) = ⊥
+  LeavesTask (status.NotBuilt form) = ⊥
+
+-- ---- what a call does for its words
+
+-- nothing, as they are in no row of its table; nothing yet, as a form isn't built; or a recording
+pub data Service : Type 0 where
+  NoRow : Service
+  NotYet : Form → Service
+  Does : Task → Service
+
+-- the first of these forms that isn't built yet
+abbrev pub unbuilt : Settings → Option Form
+unbuilt settings =
+    if not (settings.size.w == 32 && settings.size.h == 32) then Some Size
+    else if not (settings.effort == 0) then Some Effort
+    else if not (settings.key == 1) then Some Key
+    else None
+
+abbrev pub if_built : Option Form → Task → Service
+if_built None task = Does task
+if_built (Some form) task = NotYet form
+
+abbrev pub serial_service : Option Row → Service
+serial_service (Some (Serial words)) = if_built (unbuilt words.settings) (serial_task words)
+serial_service _ = NoRow
+
+abbrev pub demo_service : Option Row → Service
+demo_service (Some (Demo number)) = NotYet Command
+demo_service _ = NoRow
+
+abbrev pub run_service : Option Row → Service
+run_service None = NoRow
+run_service (Some (Serial words)) = if_built (unbuilt words.settings) (serial_task words)
+run_service (Some (Record words)) = NotYet Command
+run_service (Some (Demo number)) = NotYet Command
+run_service (Some (Decode words)) = NotYet Command
+
+-- what isn't answered for words that are served
+pub record IsServed (answer : Status) : Type 0 where
+  pub in_row : answer ≢ status.Usage
+  pub built : (form : Form) → answer ≢ status.NotBuilt form
+  pub no_stream : (at : ℕ) → answer ≢ status.BadStream at
+
+-- Usage comes exactly where the words are in no row, and NotBuilt exactly where a form isn't built, but for want of memory.
+abbrev pub Answers : Service → Status → Type 0
+Answers NoRow answer = (answer ≡ status.Usage) ⊎ (answer ≡ status.NoMemory)
+Answers (NotYet form) answer = (answer ≡ status.NotBuilt form) ⊎ (answer ≡ status.NoMemory)
+Answers (Does task) answer = IsServed answer
+
+-- ---- what needs no file to be told
+
+abbrev pub IsEmpty : List Entry → ℕ → Type 0
+IsEmpty order written = (order ≡ []) × (written ≡ 0)
+
+-- a status that shows by itself that no recording began leaves no order, and nothing was written
+abbrev pub RefusesTask : Status → List Entry → ℕ → Type 0
+RefusesTask status.Ok order written = Unit {0}
+RefusesTask status.Usage order written = IsEmpty order written
+RefusesTask (status.BadPaint file line cause) order written = IsEmpty order written
+RefusesTask (status.Limit which) order written = IsEmpty order written
+RefusesTask (status.InputFault file) order written = IsEmpty order written
+RefusesTask status.SinkFault order written = Unit {0}
+RefusesTask status.ReportFault order written = Unit {0}
+RefusesTask status.NoMemory order written = Unit {0}
+RefusesTask (status.TooLarge file) order written = IsEmpty order written
+RefusesTask (status.BadStream at) order written = IsEmpty order written
+RefusesTask (status.NotBuilt form) order written = IsEmpty order written
+
+-- nor is there an order where nothing is done for the words
+abbrev pub RefusesEmpty : Service → Status → List Entry → ℕ → Type 0
+RefusesEmpty NoRow answer order written = IsEmpty order written
+RefusesEmpty (NotYet form) answer order written = IsEmpty order written
+RefusesEmpty (Does task) answer order written = RefusesTask answer order written
+
+-- a file that an answer names is one of the words
+abbrev pub IsOfFile : List (List ℕ) → Status → Type 0
+IsOfFile files (status.BadPaint file line cause) = file < length files
+IsOfFile files (status.InputFault file) = file < length files
+IsOfFile files (status.TooLarge file) = file < length files
+IsOfFile files _ = Unit {0}
+
+abbrev pub NamesFile : Service → Status → Type 0
+NamesFile (Does task) answer = IsOfFile task.files answer
+NamesFile NoRow answer = Unit {0}
+NamesFile (NotYet form) answer = Unit {0}
+
+-- ---- what is told of files and report
+
+-- Where nothing is done, everything stays as it was.
+abbrev pub Leaves : Service → Files → Files → Status → List Entry → ℕ → Type 0
+Leaves NoRow before after answer order written = IsUntouched order before after written
+Leaves (NotYet form) before after answer order written = IsUntouched order before after written
+Leaves (Does task) before after answer order written = LeavesTask task before after order written answer
+
+-- With Ok the report grew by its text, and with ReportFault by a part of it.
+abbrev pub ReportsTask : Task → Files → List ℕ → List ℕ → Status → List Entry → ℕ → Type 0
+ReportsTask task before was now status.Ok order written =
+    (scripts : List (List Line)) → scripts_in task before ≡ Ok scripts → now ≡ was ++ report_of scripts order written
+ReportsTask task before was now status.ReportFault order written =
+    (scripts : List (List Line)) → scripts_in task before ≡ Ok scripts →
+    (part : List ℕ) × IsPrefix part (report_of scripts order written) × (now ≡ was ++ part)
+ReportsTask task before was now _ order written = now ≡ was
+
+abbrev pub Reports : Service → Files → List ℕ → List ℕ → Status → List Entry → ℕ → Type 0
+Reports NoRow before was now answer order written = now ≡ was
+Reports (NotYet form) before was now answer order written = now ≡ was
+Reports (Does task) before was now answer order written = ReportsTask task before was now answer order written
+
+-- Completeness: where the files are accepted and no count rose, the answer is Ok, but for want of memory.
+abbrev pub IsComplete : Service → Files → Counts → Counts → Status → Type 0
+IsComplete (Does task) before counts counts_now answer =
+    IsOk (scripts_in task before) → NoneRose counts counts_now → (answer ≡ status.Ok) ⊎ (answer ≡ status.NoMemory)
+IsComplete NoRow before counts counts_now answer = Unit {0}
+IsComplete (NotYet form) before counts counts_now answer = Unit {0}
