@@ -1,9 +1,8 @@
 -- What a reader gave, and what a writer took so far.
-use Rattle.std.proofs.Common.{◌≡◌, ℕ, ◌+◌, ◌-◌, ◌^◌, ◌<◌, ◌≤◌, min, List, [], ◌++◌, take, drop, length, Vec, Result, Ok, Err, refl, sym, ap, subst, ◌∙◌, arith, append_assoc, append-nil, length-take, length-drop, take-append-drop}
+use Rattle.std.proofs.Common.{◌≡◌, ℕ, ◌+◌, ◌-◌, ◌^◌, ◌<◌, ◌≤◌, min, List, [], ◌++◌, take, drop, length, Vec, Ok, Err, refl, sym, ap, ◌∙◌, arith, append_assoc, append-nil, length-take, length-drop, take-append-drop}
 use Rattle.std.proofs.lemmas.List.{take_all}
 use Rattle.std.specs.Prelude.{Option, Some, None, option_map, IfSome, IsSomeAnd}
 use Rattle.std.specs.Io.KnownBytes.{Appends, Keeps}
-use Rattle.edges.specs.declared.sink.WriteError.{WriteError}
 use Rattle.edges.specs.declared.sink.WriteError.TheVariants as write
 use Rattle.edges.specs.Shelf.{ReadAnswer}
 use Rattle.edges.specs.Sink.{Writes}
@@ -32,9 +31,11 @@ pub took_more : (before now later : Option (List ℕ)) (piece rest : List ℕ) (
     TookFront before now piece rest → TookFront before later piece (take (length rest - count) (drop count rest))
 took_more before now later piece rest count a t =
     let left : take (length rest - count) (drop count rest) ≡ drop count rest = take_all _ _ (omega (arith, length-drop count rest)) in
-    rw left (t.0 ++ take count rest
-    , t.1 ∙ ap (λ r. t.0 ++ r) (sym (take-append-drop count rest)) ∙ sym (append_assoc t.0 (take count rest) (drop count rest))
-    , more_text before now later t.0 (take count rest) a t.2)
+    rw left (
+      t.0 ++ take count rest,
+      t.1 ∙ ap (λ r. t.0 ++ r) (sym (take-append-drop count rest)) ∙ sym (append_assoc t.0 (take count rest) (drop count rest)),
+      more_text before now later t.0 (take count rest) a t.2,
+    )
 
 kept_text : (before now later : Option (List ℕ)) (taken : List ℕ) → Keeps now later →
     IfSome before (λ was. IsSomeAnd now (λ text. text ≡ was ++ taken)) → IfSome before (λ was. IsSomeAnd later (λ text. text ≡ was ++ taken))

@@ -54,7 +54,12 @@ impl<'a, R: Files + Sync> DiskShelf<'a, R> {
 }
 
 // Reads a file of the host.
-fn read_file<R: Files>(alloc: Global, host: &R, name: &str, limit: u64) -> Result<Vec<u8>, ReadError> {
+fn read_file<R: Files>(
+    alloc: Global,
+    host: &R,
+    name: &str,
+    limit: u64,
+) -> Result<Vec<u8>, ReadError> {
     match fs::open(host, name) {
         Ok(file) => read_up_to(alloc, file, limit),
         Err(_) => Err(ReadError::Failed),

@@ -8,7 +8,7 @@ pub returns-in-Some-clause-files : goal.returns-in-Some-clause-files
 returns-in-Some-clause-files c =
     let found = rw c.in-Some.is at c.get_mut.ensures.value in
     append-shelf c.self.inside.files (c.get_mut.follows.lender c.extend.new.bytes) c.args.self.now c.args.name.now c.args.piece.now c.in-Some.bytes.now c.extend.new.bytes c.extend.result
-      c.self.view_is found ((c.get_mut.follows.holds c.extend.new.bytes).3 (search rules)) c.extend.ensures.ok c.extend.ensures.err c.extend.ensures.memory
+    c.self.view_is found ((c.get_mut.follows.holds c.extend.new.bytes).3 (search rules)) c.extend.ensures.ok c.extend.ensures.err c.extend.ensures.memory
 
 pub returns-in_ok-put-in-None-clause-files : goal.returns-in_ok-put-in-None-clause-files
 returns-in_ok-put-in-None-clause-files c =

@@ -1,0 +1,159 @@
+// Expected bytes are written out by hand.
+ghost use Rattle.std.specs.Prelude.{◌≡◌, ◌++◌, OnOk};
+ghost use Rattle.h265_model.specs.Files.{WhereTold, file_at};
+
+use crate::{
+    CalmShelf, DiskShelf, FileSink, Gate, MemorySink, NoGate, ReadError, Shelf, Sink, StreamSink,
+    WriteError,
+};
+use std::fmt::Display;
+use std::io;
+use std::test::Fail;
+
+fn read<F: Shelf>(
+    shelf: &mut F,
+    rt: &HostRuntime,
+    name: &str,
+    limit: u64,
+) -> Result<Vec<u8>, ReadError> {
+    shelf.read_whole(rt.alloc(), name, limit)
+}
+
+fn write_both<K: Sink>(sink: &mut K, first: &[u8], second: &[u8]) -> Result<(), WriteError>
+    ensures text { OnOk result (WhereTold (K.text sink.old) (K.text sink.new) (λ before after. after ≡ before ++ first.now ++ second.now)) }
+    ensures beside { WhereTold (K.beside sink.old) (K.beside sink.new) (λ before after. after ≡ before) }
+    ensures through { K.through sink.new ≡ K.through sink.old }
+{
+    sink.write(first)?;
+    sink.write(second)
+}
+
+// What a sink over a file wrote stands in the shelf.
+fn store(shelf: &mut CalmShelf, name: &str, piece: &[u8]) -> Result<(), WriteError>
+    ensures { OnOk result (file_at shelf.new name.now ≡ file_at shelf.old name.now ++ piece.now) }
+{
+    let mut sink = FileSink::new(shelf, name);
+    write_both(&mut sink, piece, &[])
+}
+
+#[test]
+fn files_in_memory(rt: HostRuntime) -> Result<(), Fail> {
+    let mut shelf = CalmShelf::new(rt.alloc())?;
+    assert_eq!(rt; shelf.file("a"), None);
+    assert_eq!(rt; read(&mut shelf, &rt, "a", 0)?.as_slice(), b"".as_slice());
+    shelf.put("a", b"one")?;
+    shelf.append("a", b"two")?;
+    shelf.append("b", b"three")?;
+    store(&mut shelf, "b", b"!")?;
+    assert_eq!(rt; shelf.file("a"), Some(b"onetwo".as_slice()));
+    assert_eq!(rt; shelf.file("b"), Some(b"three!".as_slice()));
+    assert_eq!(rt;
+        read(&mut shelf, &rt, "a", 6)?.as_slice(),
+        b"onetwo".as_slice()
+    );
+    assert!(rt; matches!(read(&mut shelf, &rt, "a", 5), Err(ReadError::TooLarge)));
+    shelf.create("a")?;
+    assert_eq!(rt; shelf.file("a"), Some(b"".as_slice()));
+    Ok(())
+}
+
+#[test]
+fn text_in_memory(rt: HostRuntime) -> Result<(), Fail> {
+    let mut sink = MemorySink::new(rt.alloc(), &[(1, 2), (3, 9)])?;
+    assert_eq!(rt;
+        write_both(&mut sink, b"one", b"two"),
+        Err(WriteError::Failed)
+    );
+    assert_eq!(rt; sink.text(), b"onetw".as_slice());
+    assert_eq!(rt;
+        write_both(&mut sink, b"six", b"ten"),
+        Err(WriteError::Failed)
+    );
+    assert_eq!(rt; write_both(&mut sink, b"", b"."), Ok(()));
+    assert_eq!(rt; sink.text(), b"onetwsixten.".as_slice());
+    NoGate.line_played(0, 0);
+    NoGate.row_published(0);
+    NoGate.row_taken(1);
+    Ok(())
+}
+
+fn needs_send<T: Send>(_: &T) {}
+
+#[test]
+fn real_files(rt: HostRuntime) -> Result<(), Fail> {
+    let mut shelf = DiskShelf::new(rt.alloc(), &rt);
+    needs_send(&shelf);
+    assert!(rt;
+        matches!(
+            read(&mut shelf, &rt, "no_such_file", 9),
+            Err(ReadError::Failed)
+        )
+    );
+    assert_eq!(rt; shelf.append("edges_a", b"early"), Err(WriteError::Failed));
+    shelf.create("edges_a")?;
+    shelf.append("edges_a", b"one")?;
+    FileSink::new(&mut shelf, "edges_a").write(b"two")?;
+    assert_eq!(rt; shelf.append("edges_b", b"other"), Err(WriteError::Failed));
+    assert_eq!(rt; shelf.append("edges_a", b""), Ok(()));
+    assert_eq!(rt;
+        read(&mut shelf, &rt, "edges_a", 6)?.as_slice(),
+        b"onetwo".as_slice()
+    );
+    assert!(rt;
+        matches!(
+            read(&mut shelf, &rt, "edges_a", 5),
+            Err(ReadError::TooLarge)
+        )
+    );
+    assert_eq!(rt; shelf.create("no_such_folder/a"), Err(WriteError::Failed));
+    shelf.append("edges_a", b"three")?;
+    assert_eq!(rt;
+        read(&mut shelf, &rt, "edges_a", u64::MAX)?.as_slice(),
+        b"onetwothree".as_slice()
+    );
+    shelf.create("edges_a")?;
+    assert_eq!(rt;
+        read(&mut shelf, &rt, "edges_a", 0)?.as_slice(),
+        b"".as_slice()
+    );
+    std::fs::remove_file(&rt, "edges_a")?;
+    Ok(())
+}
+
+// A host that takes a few bytes at a time.
+struct Trickle {
+    most: usize,
+}
+
+impl Print for Trickle {
+    fn print<D: Display + Drop>(&self, _: D) -> io::Result<()> {
+        Ok(())
+    }
+
+    fn println<D: Display + Drop>(&self, _: D) -> io::Result<()> {
+        Ok(())
+    }
+
+    fn write_all(&self, _: &[u8]) -> io::Result<()> {
+        Ok(())
+    }
+
+    fn write_some(&self, bytes: &[u8]) -> io::Result<usize> {
+        Ok(bytes.len().min(self.most))
+    }
+}
+
+#[test]
+fn standard_output(rt: HostRuntime) -> Result<(), Fail> {
+    write_both(&mut StreamSink::new(&rt), b"one", b"two\n")?;
+    assert_eq!(rt;
+        StreamSink::new(&Trickle { most: 2 }).write(b"seven"),
+        Ok(())
+    );
+    assert_eq!(rt;
+        StreamSink::new(&Trickle { most: 0 }).write(b"seven"),
+        Err(WriteError::Failed)
+    );
+    assert_eq!(rt; StreamSink::new(&Trickle { most: 0 }).write(b""), Ok(()));
+    Ok(())
+}
