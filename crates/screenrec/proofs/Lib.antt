@@ -2,3 +2,4 @@ pub mod PcmLaw
 pub mod StoredLaws
 pub mod AcceptedLaws
 pub mod AloneLaws
+pub mod RunLaws

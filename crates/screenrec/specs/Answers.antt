@@ -1,13 +1,9 @@
--- The words and the counts of a call, and when a fault may be answered.
-use Rattle.std.specs.Prelude.{◌≡◌, ℕ, ◌≤◌, List, map}
-use Rattle.std.specs.Borrow.{Bor}
+-- The counts of a call, and when a fault may be answered.
+use Rattle.std.specs.Prelude.{◌≡◌, ℕ, ◌≤◌, List}
 use Rattle.h265_model.specs.Files.{Rose}
 use Rattle.screenrec.specs.declared.outcome.Status.{Status}
 use Rattle.screenrec.specs.declared.outcome.Status.TheVariants as status
 
--- the words as texts
-abbrev pub texts : List (Bor (List ℕ)) → List (List ℕ)
-texts words = map (λ word. word.now) words
 
 -- the counts of faults of a shelf and of a report, before a call and after it
 pub record Counts : Type 0 where

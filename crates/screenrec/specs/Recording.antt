@@ -122,8 +122,11 @@ abbrev pub if_built : Option Form → Task → Service
 if_built None task = Does task
 if_built (Some form) task = NotYet form
 
+abbrev pub serial_words_service : SerialWords → Service
+serial_words_service words = if_built (unbuilt words.settings) (serial_task words)
+
 abbrev pub serial_service : Option Row → Service
-serial_service (Some (Serial words)) = if_built (unbuilt words.settings) (serial_task words)
+serial_service (Some (Serial words)) = serial_words_service words
 serial_service _ = NoRow
 
 abbrev pub demo_service : Option Row → Service
@@ -132,7 +135,7 @@ demo_service _ = NoRow
 
 abbrev pub run_service : Option Row → Service
 run_service None = NoRow
-run_service (Some (Serial words)) = if_built (unbuilt words.settings) (serial_task words)
+run_service (Some (Serial words)) = serial_words_service words
 run_service (Some (Record words)) = NotYet Command
 run_service (Some (Demo number)) = NotYet Command
 run_service (Some (Decode words)) = NotYet Command

@@ -1,98 +1,57 @@
 //! One script, in its own order, on one thread.
-ghost use Rattle.std.specs.Prelude.{◌≡◌, ◌≤◌, ◌<◌, ℕ, [], ◌∷◌, map, IfOk};
-ghost use Rattle.std.specs.List.{range_with_len};
-ghost use Rattle.h265_model.specs.declared.entry.Entry.{Entry};
-ghost use Rattle.h265_model.specs.Files.{WhereTold, Rose};
-ghost use Rattle.h265_model.specs.Histories.{own_order};
-ghost use Rattle.edges.specs.Causes.{HasWriteCause};
-ghost use Rattle.screenrec.specs.Alone.{sink_status, sink_result, ReportsScript, IsAfterReading, IsOfReport, IsReported, LeavesScript};
+ghost use Rattle.std.specs.Prelude.{◌≡◌};
+ghost use Rattle.h265_model.specs.Files.{WhereTold};
+ghost use Rattle.h265_model.specs.Words.{row_of};
+ghost use Rattle.command_line.specs.Views.{texts};
+ghost use Rattle.screenrec.specs.Answers.{counts, HasCauses, IsSilent};
+ghost use Rattle.screenrec.specs.Recording.{serial_service, Answers, RefusesEmpty, NamesFile, Leaves, Reports, IsComplete};
 
-use crate::paint_file::read_paint;
-use crate::report::write_report;
-use crate::stream_file::write_stream;
+use crate::alone::serve;
 use crate::{Outcome, Status};
-use edges::{Shelf, Sink, WriteError};
-use h265_model::{Entry, History, NoMemory};
-use paint_script::Script;
+use command_line::{Row, read_words};
+use edges::{Shelf, Sink};
 use std::alloc::Global;
 
-// The script's lines in order, as entries of client 0.
-fn entries(alloc: Global, lines: u32) -> Result<History, NoMemory>
-    ensures { IfOk result (λ order. order ≡ map (λ index. Entry.Line 0 index) (range_with_len 0 lines)) }
-{
-    let mut entries = Vec::new(alloc);
-    for index in 0..lines {
-        entries.push(Entry::Line { client: 0, index })?;
-    }
-    Ok(History::from_vec(entries))
-}
-
-// The status of a failed write of the stream.
-fn status_of(error: WriteError) -> Status
-    ensures { result ≡ sink_status error }
-{
-    match error {
-        WriteError::Failed => Status::SinkFault,
-        WriteError::NoMemory => Status::NoMemory,
-    }
-}
-
-// Reports a script whose stream was written whole.
-fn report_script<K: Sink>(alloc: Global, script: &Script, written: u64, report: &mut K) -> Status
-    ensures status { IsOfReport result }
-    ensures later { K.faults report.old ≤ K.faults report.new }
-    ensures cause { result ≡ Status.ReportFault → Rose (K.faults report.old) (K.faults report.new) }
-    ensures text { WhereTold (K.text report.old) (K.text report.new) (λ was now. ReportsScript script.now written was now result) }
-    ensures beside { WhereTold (K.beside report.old) (K.beside report.new) (λ was now. now ≡ was) }
-{
-    let cuts = script.cuts();
-    let paints = script.lines() - cuts;
-    match write_report(alloc, cuts, paints, written, report) {
-        Ok(()) => Status::Ok,
-        Err(WriteError::Failed) => Status::ReportFault,
-        Err(WriteError::NoMemory) => Status::NoMemory,
-    }
-}
-
-// Writes the stream of an accepted script, and reports it.
-fn record_script<F: Shelf, K: Sink>(
+/// Serves the words `serial SIZE EFFORT KEY OUT FILE`: replays the paint script FILE on one desktop, and writes its cut
+/// pictures to OUT as a lossless H.265 stream. It answers `Usage` for all other words.
+pub fn run_serial<F: Shelf, K: Sink>(
     alloc: Global,
-    script: &Script,
-    out: &str,
+    words: &[&str],
     shelf: &mut F,
     report: &mut K,
 ) -> Outcome
-    ensures status { IsAfterReading result.status }
-    ensures sink { HasWriteCause (F.write_faults shelf.old) (F.write_faults shelf.new) (sink_result result.status) }
-    ensures reads { F.read_faults shelf.new ≡ F.read_faults shelf.old }
-    ensures later { K.faults report.old ≤ K.faults report.new }
-    ensures cause { result.status ≡ Status.ReportFault → Rose (K.faults report.old) (K.faults report.new) }
+    // Usage and NotBuilt come exactly where the words say so, but for want of memory.
+    ensures words { Answers (serial_service (row_of (texts words.now))) result.status }
+    // A fault comes only where its count rose.
+    ensures causes { HasCauses
+        (counts (F.read_faults shelf.old) (F.write_faults shelf.old) (K.faults report.old))
+        (counts (F.read_faults shelf.new) (F.write_faults shelf.new) (K.faults report.new))
+        result.status }
+    // Where no recording began there is no order, and nothing was written.
+    ensures refused { RefusesEmpty (serial_service (row_of (texts words.now))) result.status result.order result.written }
+    // A file that is named is one of the words.
+    ensures named { NamesFile (serial_service (row_of (texts words.now))) result.status }
+    // What each status says of the scripts, the order and the files; with Ok, that OUT is the stream of the cut pictures,
+    // and that H.265 decodes it to them.
     ensures files { WhereTold (F.files shelf.old) (F.files shelf.new) (λ before after.
-        LeavesScript out.now script.now before after result.order result.written result.status) }
-    ensures text { WhereTold (K.text report.old) (K.text report.new) (λ was now.
-        ReportsScript script.now result.written was now result.status) }
-    ensures own { IsReported result.status → result.order ≡ own_order (script.now ∷ []) }
+        Leaves (serial_service (row_of (texts words.now))) before after result.status result.order result.written) }
+    // The report is written at the end alone,
+    ensures silent { WhereTold (K.text report.old) (K.text report.new) (λ was now. IsSilent result.status was now) }
+    // what stands beside it stays as it was,
     ensures beside { WhereTold (K.beside report.old) (K.beside report.new) (λ was now. now ≡ was) }
+    // and with Ok it grew by its text.
+    ensures reported { WhereTold (F.files shelf.old) (F.files shelf.new) (λ before after.
+        WhereTold (K.text report.old) (K.text report.new) (λ was now.
+        Reports (serial_service (row_of (texts words.now))) before was now result.status result.order result.written)) }
+    // With good words and files, and where no count rose, only want of memory is between the call and Ok.
+    ensures complete { WhereTold (F.files shelf.old) (F.files shelf.new) (λ before after.
+        IsComplete (serial_service (row_of (texts words.now))) before
+        (counts (F.read_faults shelf.old) (F.write_faults shelf.old) (K.faults report.old))
+        (counts (F.read_faults shelf.new) (F.write_faults shelf.new) (K.faults report.new))
+        result.status) }
 {
-    let Ok(order) = entries(alloc, script.lines()) else {
-        return Outcome::refused(alloc, Status::NoMemory);
-    };
-    let ending = match write_stream(alloc, script.as_slice(), out, shelf) {
-        Ok(ending) => ending,
-        Err(error) => return Outcome::refused(alloc, status_of(error)),
-    };
-    if let Err(error) = ending.result {
-        return Outcome {
-            status: status_of(error),
-            order,
-            written: ending.written,
-        };
-    }
-    let written = ending.written;
-    let status = report_script(alloc, script, written, report);
-    Outcome {
-        status,
-        order,
-        written,
+    match read_words(words) {
+        Some(Row::Serial(words)) => serve(alloc, &words, shelf, report),
+        _ => Outcome::refused(alloc, Status::Usage),
     }
 }

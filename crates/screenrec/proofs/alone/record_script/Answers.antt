@@ -4,7 +4,7 @@ use Rattle.h265_model.specs.declared.entry.Entry.{Entry}
 use Rattle.h265_model.specs.declared.entry.Entry.TheVariants as entry
 use Rattle.h265_model.specs.Histories.{own_order}
 use Rattle.screenrec.proofs.AloneLaws.{whole_files, stopped_files}
-use Rattle.screenrec.proofs.serial.record_script.Goals as goal
+use Rattle.screenrec.proofs.alone.record_script.Goals as goal
 
 pub returns-in-Err-result-clause-files : goal.returns-in-Err-result-clause-files
 returns-in-Err-result-clause-files g c =

@@ -1,7 +1,7 @@
 use Rattle.std.proofs.Common.{length, ◌-◌, ◌≡◌}
 use Rattle.std.specs.Prelude.{count_by}
 use Rattle.screenrec.proofs.AloneLaws.{reported_whole, reported_in_part}
-use Rattle.screenrec.proofs.serial.report_script.Goals as goal
+use Rattle.screenrec.proofs.alone.report_script.Goals as goal
 
 pub returns-in-Ok-clause-text : goal.returns-in-Ok-clause-text
 returns-in-Ok-clause-text g c =
