@@ -1,21 +1,6 @@
 //! The tables of the parameter sets: each field's number, its descriptor and its value (Rec. ITU-T H.265, 7.3.2, 7.3.3 and E.2.1).
 
-/// How a syntax element is coded (7.2).
-#[derive(Clone, Copy, Debug, PartialEq, Eq)]
-pub enum Descriptor {
-    /// u(n)
-    U(u32),
-    /// ue(v); a signed element of value 0 is coded as ue(v) of 0
-    Ue,
-}
-
-/// A field: its number in its table, its descriptor and its value.
-#[derive(Clone, Copy, Debug, PartialEq, Eq)]
-pub struct Field {
-    pub number: u32,
-    pub coding: Descriptor,
-    pub value: u32,
-}
+use bit_string::{Descriptor, Field};
 
 macro_rules! u {
     ($number:expr, $width:expr, $value:expr) => {

@@ -1,15 +1,13 @@
 //! Writing parameter sets.
-ghost use Rattle.std.specs.Prelude.{◌≡◌, ◌<◌, ◌++◌, OnOk, IfOk, IsTrue};
+ghost use Rattle.std.specs.Prelude.{◌≡◌, ◌<◌, ◌++◌, OnOk, IfOk};
 ghost use Rattle.h265_model.specs.Bits.{bytes, ue};
-ghost use Rattle.h265_model.specs.Fields.{element_bits, fields_bits, aligned_bits};
+ghost use Rattle.h265_model.specs.Fields.{fields_bits, aligned_bits};
 ghost use Rattle.h265_model.specs.NalUnits.{stream_bytes};
 ghost use Rattle.h265_model.specs.ParamSets.{vps_fields, sps_fields, pps_fields, size_fields, param_units};
-ghost use Rattle.h265_model.specs.Words.{is_size};
-ghost use Rattle.param_sets.specs.Tables.{field_of, fields_of, is_writable, all_writable};
 
-use crate::tables::{Descriptor, Field, PPS, SPS_BACK, SPS_FORMATS, SPS_FRONT, SPS_PROFILE, VPS_BACK, VPS_FRONT, VPS_PROFILE};
+use crate::tables::{PPS, SPS_BACK, SPS_FORMATS, SPS_FRONT, SPS_PROFILE, VPS_BACK, VPS_FRONT, VPS_PROFILE};
 use annexb::append_unit;
-use bit_string::BitWriter;
+use bit_string::{BitWriter, write_fields};
 use h265_model::NoMemory;
 use px_plane::Size;
 use std::alloc::Global;
@@ -97,30 +95,4 @@ fn write_window(out: &mut BitWriter, right: u32, bottom: u32) -> Result<(), NoMe
     out.ue(right)?;
     out.ue(0)?;
     out.ue(bottom)
-}
-
-fn write_fields(out: &mut BitWriter, fields: &[Field]) -> Result<(), NoMemory>
-    requires { IsTrue (all_writable (fields_of fields.now)) }
-    ensures { OnOk result (out.new ≡ out.old ++ fields_bits (fields_of fields.now)) }
-{
-    for field in fields {
-        write_field(out, *field)?;
-    }
-    Ok(())
-}
-
-fn write_field(out: &mut BitWriter, field: Field) -> Result<(), NoMemory>
-    requires { IsTrue (is_writable (field_of field)) }
-    ensures { OnOk result (out.new ≡ out.old ++ element_bits (field_of field).coding field.value) }
-{
-    match field.coding {
-        Descriptor::Ue => out.ue(field.value),
-        Descriptor::U(width) => {
-            if width > 32 {
-                out.put(width - 32, 0)?;
-                return out.put(32, field.value);
-            }
-            out.put(width, field.value)
-        }
-    }
 }

@@ -2,7 +2,7 @@ use Rattle.std.proofs.Common.{◌≡◌, ◌++◌, List, [], ◌∷◌, sym, ◌
 use Rattle.h265_model.specs.Bits.{bytes}
 use Rattle.h265_model.specs.Fields.{Field, fixed, fields_bits, aligned_bits}
 use Rattle.h265_model.specs.ParamSets.{sps_front, profile_tier_level, sps_formats, size_fields, sps_back, sps_fields}
-use Rattle.param_sets.proofs.Writes.{tables-three, tables-two}
+use Rattle.bit_string.proofs.TableLaws.{tables-three, tables-two}
 use Rattle.param_sets.proofs.writing.sps.Goals as goal
 
 abbrev front : List Field

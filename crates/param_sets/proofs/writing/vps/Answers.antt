@@ -2,7 +2,7 @@ use Rattle.std.proofs.Common.{◌≡◌, ◌++◌, List, [], ◌∷◌, sym, ◌
 use Rattle.h265_model.specs.Bits.{bytes}
 use Rattle.h265_model.specs.Fields.{Field, fixed, fields_bits, aligned_bits}
 use Rattle.h265_model.specs.ParamSets.{vps_front, profile_tier_level, vps_back, vps_fields}
-use Rattle.param_sets.proofs.Writes.{tables-three}
+use Rattle.bit_string.proofs.TableLaws.{tables-three}
 use Rattle.param_sets.proofs.writing.vps.Goals as goal
 
 pub returns : goal.returns

@@ -2,9 +2,9 @@ use Rattle.std.proofs.Common.{◌≡◌, ◌-◌, ◌++◌, sym, ◌∙◌, ap, 
 use Rattle.std.proofs.lemmas.Result.{on_ok_weaker}
 use Rattle.h265_model.specs.Bits.{u}
 use Rattle.h265_model.specs.Fields.{element_bits}
-use Rattle.param_sets.specs.Tables.{descriptor_of}
-use Rattle.param_sets.proofs.Writes.{u-long}
-use Rattle.param_sets.proofs.writing.write_field.Goals as goal
+use Rattle.bit_string.specs.Tables.{descriptor_of}
+use Rattle.bit_string.proofs.TableLaws.{u-long}
+use Rattle.bit_string.proofs.fields.write_field.Goals as goal
 
 pub returns-then-width-gt32 : goal.returns-then-width-gt32
 returns-then-width-gt32 c =

@@ -1,11 +1,11 @@
 use Rattle.std.proofs.Common.{◌≡◌, ◌++◌, List, Bool, take, get_or, sym, ◌∙◌, ap, append_assoc}
 use Rattle.std.proofs.lemmas.List.{append-nil}
 use Rattle.h265_model.specs.Fields.{fields_bits, element_bits}
-use Rattle.param_sets.specs.declared.tables.Descriptor.TheVariants.{U}
-use Rattle.param_sets.specs.declared.tables.Field.{Field}
-use Rattle.param_sets.specs.Tables.{field_of, fields_of}
-use Rattle.param_sets.proofs.Writes.{writable_at, bits_more}
-use Rattle.param_sets.proofs.writing.write_fields.Goals as goal
+use Rattle.bit_string.specs.declared.fields.Descriptor.TheVariants.{U}
+use Rattle.bit_string.specs.declared.fields.Field.{Field}
+use Rattle.bit_string.specs.Tables.{field_of, fields_of}
+use Rattle.bit_string.proofs.TableLaws.{writable_at, bits_more}
+use Rattle.bit_string.proofs.fields.write_fields.Goals as goal
 
 abbrev none : Field
 none = record { number = 0; coding = U 0; value = 0 }

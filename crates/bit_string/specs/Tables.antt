@@ -1,10 +1,10 @@
 -- The tables of the code as those of the definitions.
-use Rattle.std.specs.Prelude.{ℕ, ◌^◌, Bool, ◌&&◌, List, map, nat_lt, nat_le}
+use Rattle.std.specs.Prelude.{ℕ, ◌^◌, Bool, true, ◌&&◌, List, map, nat_lt, nat_le}
 use Rattle.std.specs.List.{list_all}
 use Rattle.h265_model.specs.Fields as model
-use Rattle.param_sets.specs.declared.tables.Descriptor.{Descriptor}
-use Rattle.param_sets.specs.declared.tables.Descriptor.TheVariants.{U, Ue}
-use Rattle.param_sets.specs.declared.tables.Field.{Field}
+use Rattle.bit_string.specs.declared.fields.Descriptor.{Descriptor}
+use Rattle.bit_string.specs.declared.fields.Descriptor.TheVariants.{U, Ue}
+use Rattle.bit_string.specs.declared.fields.Field.{Field}
 
 abbrev pub descriptor_of : Descriptor → model.Descriptor
 descriptor_of (U n) = model.U n
@@ -26,3 +26,11 @@ is_writable f = can_spell f.coding f.value
 
 abbrev pub all_writable : List model.Field → Bool
 all_writable fields = list_all is_writable fields
+
+-- widths that a reader takes
+abbrev pub is_wide : model.Descriptor → Bool
+is_wide (model.U n) = nat_le n 64
+is_wide model.Ue = true
+
+abbrev pub all_wide : List model.Field → Bool
+all_wide fields = list_all (λ f. is_wide f.coding) fields
