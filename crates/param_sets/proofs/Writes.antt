@@ -10,8 +10,6 @@ use Rattle.h265_model.specs.Fields.{element_bits, fields_bits}
 use Rattle.h265_model.specs.ParamSets.{is_padded, size_fields}
 use Rattle.h265_model.proofs.FieldLaws.{both, fields_bits-append}
 use Rattle.bit_string.proofs.Digits.{u-split}
-use Rattle.param_sets.specs.declared.tables.Field.{Field}
-use Rattle.param_sets.specs.Tables.{field_of, fields_of, is_writable, all_writable}
 
 -- ---- the size
 

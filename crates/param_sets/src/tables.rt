@@ -14,10 +14,11 @@ macro_rules! ue {
     };
 }
 
-// profile_tier_level, all of it one field of the set around it (7.3.3)
-macro_rules! profile_tier_level {
-    ($number:expr) => {
+// A table with a profile_tier_level in it, all of which is one field (7.3.3).
+macro_rules! around_profile_tier_level {
+    ($number:expr; [$($front:expr,)*] [$($back:expr,)*]) => {
         [
+            $($front,)*
             // general_profile_space
             u!($number, 2, 0),
             // general_tier_flag
@@ -56,73 +57,70 @@ macro_rules! profile_tier_level {
             u!($number, 35, 0),
             // general_level_idc: level 5.2
             u!($number, 8, 156),
+            $($back,)*
         ]
     };
 }
 
-/// The video parameter set up to its profile_tier_level (7.3.2.1).
-pub static VPS_FRONT: [Field; 7] = [
-    // vps_video_parameter_set_id
-    u!(1, 4, 0),
-    // vps_base_layer_internal_flag
-    u!(2, 1, 1),
-    // vps_base_layer_available_flag
-    u!(3, 1, 1),
-    // vps_max_layers_minus1
-    u!(4, 6, 0),
-    // vps_max_sub_layers_minus1
-    u!(5, 3, 0),
-    // vps_temporal_id_nesting_flag
-    u!(6, 1, 1),
-    // vps_reserved_0xffff_16bits
-    u!(7, 16, 65535),
-];
+/// The video parameter set (7.3.2.1).
+pub static VPS: [Field; 34] = around_profile_tier_level! {
+    8;
+    [
+        // vps_video_parameter_set_id
+        u!(1, 4, 0),
+        // vps_base_layer_internal_flag
+        u!(2, 1, 1),
+        // vps_base_layer_available_flag
+        u!(3, 1, 1),
+        // vps_max_layers_minus1
+        u!(4, 6, 0),
+        // vps_max_sub_layers_minus1
+        u!(5, 3, 0),
+        // vps_temporal_id_nesting_flag
+        u!(6, 1, 1),
+        // vps_reserved_0xffff_16bits
+        u!(7, 16, 65535),
+    ]
+    [
+        // vps_sub_layer_ordering_info_present_flag
+        u!(9, 1, 1),
+        // vps_max_dec_pic_buffering_minus1
+        ue!(10, 1),
+        // vps_max_num_reorder_pics
+        ue!(11, 0),
+        // vps_max_latency_increase_plus1
+        ue!(12, 0),
+        // vps_max_layer_id
+        u!(13, 6, 0),
+        // vps_num_layer_sets_minus1
+        ue!(14, 0),
+        // vps_timing_info_present_flag
+        u!(15, 1, 0),
+        // vps_extension_flag
+        u!(16, 1, 0),
+    ]
+};
 
-/// The profile, tier and level in the video parameter set (7.3.3).
-pub static VPS_PROFILE: [Field; 19] = profile_tier_level!(8);
-
-/// The video parameter set after its profile_tier_level.
-pub static VPS_BACK: [Field; 8] = [
-    // vps_sub_layer_ordering_info_present_flag
-    u!(9, 1, 1),
-    // vps_max_dec_pic_buffering_minus1
-    ue!(10, 1),
-    // vps_max_num_reorder_pics
-    ue!(11, 0),
-    // vps_max_latency_increase_plus1
-    ue!(12, 0),
-    // vps_max_layer_id
-    u!(13, 6, 0),
-    // vps_num_layer_sets_minus1
-    ue!(14, 0),
-    // vps_timing_info_present_flag
-    u!(15, 1, 0),
-    // vps_extension_flag
-    u!(16, 1, 0),
-];
-
-/// The sequence parameter set up to its profile_tier_level (7.3.2.2).
-pub static SPS_FRONT: [Field; 3] = [
-    // sps_video_parameter_set_id
-    u!(1, 4, 0),
-    // sps_max_sub_layers_minus1
-    u!(2, 3, 0),
-    // sps_temporal_id_nesting_flag
-    u!(3, 1, 1),
-];
-
-/// The profile, tier and level in the sequence parameter set (7.3.3).
-pub static SPS_PROFILE: [Field; 19] = profile_tier_level!(4);
-
-/// The sequence parameter set from there up to the picture's size.
-pub static SPS_FORMATS: [Field; 3] = [
-    // sps_seq_parameter_set_id
-    ue!(5, 0),
-    // chroma_format_idc: 4:4:4
-    ue!(6, 3),
-    // separate_colour_plane_flag
-    u!(7, 1, 0),
-];
+/// The sequence parameter set up to the picture's size (7.3.2.2).
+pub static SPS_FRONT: [Field; 25] = around_profile_tier_level! {
+    4;
+    [
+        // sps_video_parameter_set_id
+        u!(1, 4, 0),
+        // sps_max_sub_layers_minus1
+        u!(2, 3, 0),
+        // sps_temporal_id_nesting_flag
+        u!(3, 1, 1),
+    ]
+    [
+        // sps_seq_parameter_set_id
+        ue!(5, 0),
+        // chroma_format_idc: 4:4:4
+        ue!(6, 3),
+        // separate_colour_plane_flag
+        u!(7, 1, 0),
+    ]
+};
 
 /// The sequence parameter set after the size, with the VUI (7.3.2.2, E.2.1).
 pub static SPS_BACK: [Field; 48] = [

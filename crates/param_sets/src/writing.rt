@@ -5,7 +5,7 @@ ghost use Rattle.h265_model.specs.Fields.{fields_bits, aligned_bits};
 ghost use Rattle.h265_model.specs.NalUnits.{stream_bytes};
 ghost use Rattle.h265_model.specs.ParamSets.{vps_fields, sps_fields, pps_fields, size_fields, param_units};
 
-use crate::tables::{PPS, SPS_BACK, SPS_FORMATS, SPS_FRONT, SPS_PROFILE, VPS_BACK, VPS_FRONT, VPS_PROFILE};
+use crate::tables::{PPS, SPS_BACK, SPS_FRONT, VPS};
 use annexb::append_unit;
 use bit_string::{BitWriter, write_fields};
 use h265_model::NoMemory;
@@ -37,9 +37,7 @@ fn vps(alloc: Global) -> Result<Vec<u8>, NoMemory>
     ensures { IfOk result (λ rbsp. rbsp.items ≡ bytes (aligned_bits (fields_bits vps_fields))) }
 {
     let mut out = BitWriter::new(alloc);
-    write_fields(&mut out, &VPS_FRONT)?;
-    write_fields(&mut out, &VPS_PROFILE)?;
-    write_fields(&mut out, &VPS_BACK)?;
+    write_fields(&mut out, &VPS)?;
     out.align_one()?;
     Ok(out.into_bytes())
 }
@@ -49,8 +47,6 @@ fn sps(alloc: Global, size: Size) -> Result<Vec<u8>, NoMemory>
 {
     let mut out = BitWriter::new(alloc);
     write_fields(&mut out, &SPS_FRONT)?;
-    write_fields(&mut out, &SPS_PROFILE)?;
-    write_fields(&mut out, &SPS_FORMATS)?;
     write_size(&mut out, size)?;
     write_fields(&mut out, &SPS_BACK)?;
     out.align_one()?;
