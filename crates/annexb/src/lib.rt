@@ -2,8 +2,10 @@
 #![tactic(auto)]
 
 mod escaping;
+mod unit;
 
 pub use escaping::{append_unit, escape};
+pub use unit::Unit;
 
 #[cfg(test)]
 mod tests;

@@ -119,7 +119,7 @@ none_found z old mid is e = is ∙ none_by z (read_u z mid.left) e
 low_value : (a n v : ℕ) → v < 2 ^ n → a * 2 ^ n + v % 2 ^ n ≡ a * 2 ^ n + v
 low_value a n v h = ap (λ m. a * 2 ^ n + m) (mod-eq_of_lt h)
 
-value_after-from : (a : ℕ) (xs : List Bool) → value_after a xs ≡ a * 2 ^ length xs + value xs
+pub value_after-from : (a : ℕ) (xs : List Bool) → value_after a xs ≡ a * 2 ^ length xs + value xs
 value_after-from a xs =
     ap (value_after a) (sym (u-value 0 xs)) ∙ value-u a (length xs) (value xs) ∙ low_value a (length xs) (value xs) (value_below xs)
 

@@ -12,7 +12,7 @@ use Rattle.bit_string.proofs.Digits.{u-split, bits-push}
 
 -- ---- a word of bytes
 
-value_after-append : (n : ℕ) (xs ys : List Bool) → value_after n (xs ++ ys) ≡ value_after (value_after n xs) ys
+pub value_after-append : (n : ℕ) (xs ys : List Bool) → value_after n (xs ++ ys) ≡ value_after (value_after n xs) ys
 unfolding value_after
 value_after-append n [] ys = refl
 value_after-append n (b ∷ xs) ys = value_after-append (2 * n + digit b) xs ys

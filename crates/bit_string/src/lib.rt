@@ -2,9 +2,11 @@
 //! (Rec. ITU-T H.265, 7.2 and 9.2).
 #![tactic(auto)]
 
+mod fields;
 mod reader;
 mod writer;
 
+pub use fields::{Descriptor, Field, read_element, read_fields, read_trailing, write_fields};
 pub use reader::BitReader;
 pub use writer::BitWriter;
 

@@ -1,0 +1,3 @@
+pub mod Writes
+pub mod SizeLaws
+pub mod SetLaws
