@@ -3,7 +3,7 @@ use Rattle.std.proofs.lemmas.Nat.{mul-le}
 use Rattle.h265_model.specs.Plain.{coded}
 use Rattle.px_plane.specs.Planes.{Planes, picture_of, plane_of}
 use Rattle.px_plane.proofs.Below.{row_is}
-use Rattle.px_plane.proofs.picture.Picture.row.Goals as goal
+use Rattle.px_plane.proofs.picture.Picture.row_at.Goals as goal
 
 pub returns-clause-samples : goal.returns-clause-samples
 returns-clause-samples c =
