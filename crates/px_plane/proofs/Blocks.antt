@@ -72,11 +72,11 @@ rows_before w h f y s hy hf above before k less =
     let split : k / w * w + k % w ≡ k = div-add-mod' k w in
     ap (λ (i : ℕ). get_or (place_values w h s) i false) (sym split)
     ∙ elim (cases_order (k / w) y) [
-      inl same ↦
-        let here : k % w < f = let e : k / w * w ≡ y * w = ap (λ (n : ℕ). n * w) same in omega arith in
-        at_places w h (k % w) (k / w) s false m (omega arith) ∙ (ap (s (k % w)) same ∙ before (k % w) here)
-    | inr (inl lower) ↦ at_places w h (k % w) (k / w) s false m (omega arith) ∙ above (k % w) (k / w) m lower
-    | inr (inr higher) ↦ absurd (let more : (y + 1) * w ≤ k / w * w = mul-le (y + 1) w (k / w) w (omega arith) (omega arith) in omega arith)
+      | inl same ↦
+          let here : k % w < f = let e : k / w * w ≡ y * w = ap (λ (n : ℕ). n * w) same in omega arith in
+          at_places w h (k % w) (k / w) s false m (omega arith) ∙ (ap (s (k % w)) same ∙ before (k % w) here)
+      | inr (inl lower) ↦ at_places w h (k % w) (k / w) s false m (omega arith) ∙ above (k % w) (k / w) m lower
+      | inr (inr higher) ↦ absurd (let more : (y + 1) * w ≤ k / w * w = mul-le (y + 1) w (k / w) w (omega arith) (omega arith) in omega arith)
     ]
 
 -- what is compared up to the first position that differs
@@ -147,8 +147,8 @@ pub rows_same_more : (p q : Picture) (r : Rect) (y next before now after front :
     → after ≡ now + r.w → next ≡ y + 1 → AreRowsSame p q r next before after
 rows_same_more p q r y next before now after front known row all counted one = record {
   same = λ x j hx hj. elim (cases_lt j y) [
-    inl less ↦ known.same x j hx less
-  | inr last ↦ let e : y ≡ j = omega arith in ap (λ (k : ℕ). same_at p q (r.x + x) (r.y + k)) (sym e) ∙ row.same x (omega arith)
+    | inl less ↦ known.same x j hx less
+    | inr last ↦ let e : y ≡ j = omega arith in ap (λ (k : ℕ). same_at p q (r.x + x) (r.y + k)) (sym e) ∙ row.same x (omega arith)
   ];
   ticks = let t : now ≡ before + y * r.w = known.ticks in rw one (omega arith);
 }

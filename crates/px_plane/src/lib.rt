@@ -13,3 +13,6 @@ pub use h265_model::{Job, Line, Pixels, Rect, Rgb};
 pub use picture::Picture;
 pub use size::Size;
 pub use steps::Steps;
+
+#[cfg(test)]
+mod tests;

@@ -299,7 +299,12 @@ impl Picture {
         ensures ticks { steps.new ≡ steps.old + compared (same_places (picture_of self.now) (picture_of other.now) rect) }
         ensures at_most { steps.new ≤ steps.old + rect.w * rect.h }
     {
-        let Sides { left, right, top, bottom } = Sides::of(rect);
+        let Sides {
+            left,
+            right,
+            top,
+            bottom,
+        } = Sides::of(rect);
         let n = right - left;
         for y in top..bottom {
             let front = equal_front(self.row_part(left, y, n), other.row_part(left, y, n), n);
