@@ -4,3 +4,4 @@ pub mod Rows
 pub mod Shown
 pub mod Painted
 pub mod Tiles
+pub mod Blocks

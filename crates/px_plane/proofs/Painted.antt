@@ -1,30 +1,39 @@
 -- Painting, as the raster of one more line.
-use Rattle.std.proofs.Common.{◌≡◌, refl, sym, ◌∙◌, ap, subst, ℕ, zero, suc, ◌+◌, ◌*◌, ◌<◌, Bool, true, false, List, [], ◌∷◌, ◌++◌, cond, length, arith}
+use Rattle.std.proofs.Common.{◌≡◌, refl, sym, ◌∙◌, ap, subst, ℕ, zero, suc, ◌+◌, ◌*◌, ◌<◌, Bool, true, false, List, [], ◌∷◌, ◌++◌, cond, length, get_or, arith}
 use Rattle.std.specs.Prelude.{◌&&◌, nat_lt}
 use Rattle.std.proofs.lemmas.List.Sums.{fold-append}
-use Rattle.h265_model.specs.Plain.{Picture, coded}
+use Rattle.h265_model.specs.Plain.{Size, Picture, coded}
 use Rattle.h265_model.specs.Lines.{black as unpainted}
 use Rattle.h265_model.specs.declared.line.Rect.{Rect}
 use Rattle.h265_model.specs.declared.line.Rgb.{Rgb}
 use Rattle.h265_model.specs.declared.line.Line.{Line}
 use Rattle.h265_model.specs.declared.line.Line.TheVariants.{Fill, Blit}
 use Rattle.h265_model.specs.Raster.{colour, raster, component, coded_picture, paints, repainted}
-use Rattle.px_plane.specs.Planes.{Planes, picture_of, IsPicture, Stores, ShowsLines, covers, filled, blitted, pixel_at}
+use Rattle.px_plane.specs.Planes.{Planes, plane_of, picture_of, IsPicture, Stores, ShowsLines, covers, filled, blitted, pixel_at}
 use Rattle.px_plane.specs.declared.plane.Sides.{Sides}
 use Rattle.px_plane.specs.Rows.{IsPut, IsPartOf, IsPutInto, is_in}
-use Rattle.px_plane.proofs.Shown.{coded_at, stores_from_planes, planes_from_stores}
+use Rattle.px_plane.proofs.Shown.{picture_at, coded_at, stores_from_planes, planes_from_stores}
 
 -- ---- planes
+
+plane_put : (old new : Planes) (stride : ℕ) (part : Sides) (f : ℕ → ℕ → ℕ) (c : ℕ)
+    → new.size ≡ old.size → stride ≡ coded old.size.w → IsPut (plane_of old c) (plane_of new c) stride part f
+    → (x y : ℕ) → x < coded old.size.w → y < coded old.size.h → picture_of new c x y ≡ cond (is_in part x y) (f x y) (picture_of old c x y)
+plane_put old new stride part f c same wide put x y hx hy =
+    picture_at new c x y (rw same hx) (rw same hy)
+    ∙ (ap (λ (w : ℕ). get_or (plane_of new c) (y * w + x) 0) (ap (λ (s : Size). coded s.w) same ∙ sym wide)
+    ∙ (put x y (rw wide hx)
+    ∙ ap (λ (s : ℕ). cond (is_in part x y) (f x y) s) (ap (λ (w : ℕ). get_or (plane_of old c) (y * w + x) 0) wide ∙ sym (picture_at old c x y hx hy))))
 
 -- what is put into each plane is put into the picture
 pub picture_put : (old new : Planes) (stride : ℕ) (part : Sides) (f : Picture)
     → new.size ≡ old.size → stride ≡ coded old.size.w
     → IsPut old.g new.g stride part (f 0) → IsPut old.b new.b stride part (f 1) → IsPut old.r new.r stride part (f 2)
-    → (c x y : ℕ) → c < 3 → x < coded old.size.w → picture_of new c x y ≡ cond (is_in part x y) (f c x y) (picture_of old c x y)
-picture_put old new stride part f same wide g b r zero x y h hx = rw (same, ← wide) (g x y (rw wide hx))
-picture_put old new stride part f same wide g b r (suc zero) x y h hx = rw (same, ← wide) (b x y (rw wide hx))
-picture_put old new stride part f same wide g b r (suc (suc zero)) x y h hx = rw (same, ← wide) (r x y (rw wide hx))
-picture_put old new stride part f same wide g b r (suc (suc (suc c))) x y h hx = absurd (omega arith)
+    → (c x y : ℕ) → c < 3 → x < coded old.size.w → y < coded old.size.h → picture_of new c x y ≡ cond (is_in part x y) (f c x y) (picture_of old c x y)
+picture_put old new stride part f same wide g b r zero x y h hx hy = plane_put old new stride part (f 0) 0 same wide g x y hx hy
+picture_put old new stride part f same wide g b r (suc zero) x y h hx hy = plane_put old new stride part (f 1) 1 same wide b x y hx hy
+picture_put old new stride part f same wide g b r (suc (suc zero)) x y h hx hy = plane_put old new stride part (f 2) 2 same wide r x y hx hy
+picture_put old new stride part f same wide g b r (suc (suc (suc c))) x y h hx hy = absurd (omega arith)
 
 -- the same, of a picture within its limits whose planes keep their lengths
 pub planes_put : (old : Planes) (g b r : List ℕ) (stride : ℕ) (part : Sides) (f : Picture)
@@ -46,7 +55,7 @@ pub part_painted : (old new : Planes) (r : Rect) (part : Sides) (ink : ℕ → �
     → IsPartOf old.size r part → IsPutInto old new part (λ c x y. component c (ink x y)) → Stores new (inked old r ink)
 part_painted old new r part ink is put = record {
   each = λ c x y h hx hy.
-      put.each c x y h (let same : new.size ≡ old.size = put.size in rw (← same) hx)
+      put.each c x y h (let same : new.size ≡ old.size = put.size in rw (← same) hx) (let same : new.size ≡ old.size = put.size in rw (← same) hy)
       ∙ ap (λ (t : Bool). cond t (component c (ink x y)) (picture_of old c x y)) (sym (is.covered x y));
 }
 

@@ -78,7 +78,7 @@ pub tile_laid : (old new : Planes) (tile : ℕ) (part : Sides) (samples : List �
 tile_laid old new tile part samples is put = record {
   size = put.size;
   whole = put.whole;
-  each = λ c x y h hx hy. put.each c x y h hx ∙ go c x y (is_in part x y) refl (is.has x y hx hy);
+  each = λ c x y h hx hy. put.each c x y h hx hy ∙ go c x y (is_in part x y) refl (is.has x y hx hy);
 }
   where
     go : (c x y : ℕ) (b : Bool) → is_in part x y ≡ b → is_in part x y ≡ eqb tile (tile_of old.size x y)

@@ -1,3 +1,4 @@
 pub mod Planes
 pub mod Rows
 pub mod Tiles
+pub mod Blocks

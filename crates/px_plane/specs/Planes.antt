@@ -18,16 +18,15 @@ pub record Planes : Type 0 where
 abbrev pub plane_of : Planes → ℕ → List ℕ
 plane_of p zero = p.g
 plane_of p (suc zero) = p.b
-plane_of p (suc (suc zero)) = p.r
-plane_of p (suc (suc (suc c))) = []
+plane_of p (suc (suc c)) = p.r
 
 -- the planes as a list
 abbrev pub planes_of : Planes → List (List ℕ)
 planes_of p = p.g ∷ p.b ∷ p.r ∷ []
 
--- the sample of each place
-abbrev pub picture_of : Planes → Picture
-picture_of p c x y = slice_index (plane_of p c) (y * coded p.size.w + x)
+-- the sample of each place: 0 outside the coded size
+unfoldable pub picture_of : Planes → Picture
+picture_of p c x y = if nat_lt x (coded p.size.w) && nat_lt y (coded p.size.h) then slice_index (plane_of p c) (y * coded p.size.w + x) else 0
 
 -- a size within the limits, and planes that cover the coded size
 pub record IsPicture (p : Planes) : Type 0 where

@@ -44,8 +44,8 @@ pub record IsPartOf (size : Size) (r : Rect) (part : Sides) : Type 0 where
   pub placed : IsPlaced r part
   pub covered : (x y : ℕ) → covers size r x y ≡ is_in part x y
 
--- a picture after new samples were put into a part
+-- a picture within its limits, after new samples were put into a part
 pub record IsPutInto (old new : Planes) (part : Sides) (f : Picture) : Type 0 where
   pub size : new.size ≡ old.size
   pub whole : IsPicture new
-  pub each : (c x y : ℕ) → c < 3 → x < coded old.size.w → picture_of new c x y ≡ (if is_in part x y then f c x y else picture_of old c x y)
+  pub each : (c x y : ℕ) → c < 3 → x < coded old.size.w → y < coded old.size.h → picture_of new c x y ≡ (if is_in part x y then f c x y else picture_of old c x y)

@@ -2,11 +2,17 @@
 #![tactic(auto)]
 
 mod clip;
+mod compare;
 mod picture;
 mod plane;
 mod size;
+mod steps;
 
 pub use clip::Clip;
 pub use h265_model::{Job, Line, Pixels, Rect, Rgb};
 pub use picture::Picture;
 pub use size::Size;
+pub use steps::Steps;
+
+#[cfg(test)]
+mod tests;

@@ -1,20 +1,23 @@
 //! Pictures of three planes.
-ghost use Rattle.std.specs.Prelude.{◌≡◌, ℕ, ◌+◌, ◌*◌, ◌<◌, ◌≤◌, map, length, IfOk, IfSome, IsNone, IsTrue, false, List, ◌++◌, ◌∷◌, []};
+ghost use Rattle.std.specs.Prelude.{◌≡◌, ℕ, ◌+◌, ◌*◌, ◌<◌, ◌≤◌, ◌↔◌, map, length, IfOk, IfSome, IsNone, IsTrue, false, List, ◌++◌, ◌∷◌, []};
 ghost use Rattle.h265_model.specs.Plain.{coded, ctus, below};
 ghost use Rattle.h265_model.specs.Words.{is_size};
 ghost use Rattle.h265_model.specs.declared.line.Line.{Line};
 ghost use Rattle.h265_model.specs.Raster.{Raster, component, coded_picture};
 ghost use Rattle.h265_model.specs.Desk.{tile_count, job_for};
 ghost use Rattle.px_plane.specs.Planes.{black, picture_of, plane_of, covers, filled, blitted, pixel_at, IsPicture, Stores, Shows, ShowsLines};
+ghost use Rattle.px_plane.specs.Blocks.{same_places, compared, IsSameBlock, IsRowPart};
 ghost use Rattle.px_plane.specs.Tiles.{laid, IsJobOf, DiffersOnlyIn, IsTilePart, IsTileLaid};
 ghost use Rattle.px_plane.specs.Rows.{IsWithin, IsPartOf, IsPutInto, sample_at};
 
 use crate::clip::Clip;
+use crate::compare::{RowPart, equal_front};
 use crate::plane::{Sides, blit_plane, fill_plane, lay_plane};
-use crate::{Job, Rect, Rgb, Size};
+use crate::{Job, Rect, Rgb, Size, Steps};
 use h265_model::NoMemory;
 use std::alloc::Global;
 use std::marker::Model;
+use std::sync::ledger::Ledger;
 
 /// A picture: its size, and its planes G, B and R, which H.265 calls luma, Cb and Cr.
 ///
@@ -105,8 +108,8 @@ impl Picture {
         plane[y as usize * stride + x as usize]
     }
 
-    /// The samples of a component (0 for G, 1 for B, 2 for R) at `n` places of a row, from (x, y) on.
-    pub fn row(&self, component: u32, x: u32, y: u32, n: u32) -> &[u8]
+    // The samples of a component at `n` places of a row, from (x, y) on.
+    fn row_at(&self, component: u32, x: usize, y: usize, n: usize) -> &[u8]
         requires component { component < 3 }
         requires across { x + n ≤ coded self.now.size.w }
         requires down { y < coded self.now.size.h }
@@ -115,8 +118,19 @@ impl Picture {
     {
         let plane = self.plane(component);
         let stride = coded_side(self.w) as usize;
-        let at = y as usize * stride + x as usize;
-        &plane[at..at + n as usize]
+        let at = y * stride + x;
+        &plane[at..at + n]
+    }
+
+    /// The samples of a component (0 for G, 1 for B, 2 for R) at `n` places of a row, from (x, y) on.
+    pub fn row(&self, component: u32, x: u32, y: u32, n: u32) -> &[u8]
+        requires component { component < 3 }
+        requires across { x + n ≤ coded self.now.size.w }
+        requires down { y < coded self.now.size.h }
+        ensures samples { result.now ≡ map (λ i. picture_of self.now component (x + i) y) (below n) }
+        ensures count { length result.now ≡ n }
+    {
+        self.row_at(component, x as usize, y as usize, n as usize)
     }
 
     /// An equal picture.
@@ -258,5 +272,48 @@ impl Picture {
             let at = k * 3072;
             self.lay_tile(tiles[k], across, &samples[at..at + 3072]);
         }
+    }
+
+    // The samples of `n` places of a row, from (x, y) on.
+    fn row_part(&self, x: usize, y: usize, n: usize) -> RowPart<'_>
+        requires across { x + n ≤ coded self.now.size.w }
+        requires down { y < coded self.now.size.h }
+        ensures { IsRowPart (picture_of self.now) x y n result }
+    {
+        RowPart {
+            g: self.row_at(0, x, y, n),
+            b: self.row_at(1, x, y, n),
+            r: self.row_at(2, x, y, n),
+        }
+    }
+
+    /// Whether two pictures have the same samples in a rectangle.
+    ///
+    /// It compares the three planes at each position of the rectangle, in rows from the top, up to the first position
+    /// that differs, and ticks once for each position compared.
+    pub fn block_equal<L: Ledger>(&self, other: &Picture, rect: Rect, steps: &mut Steps<L>) -> bool
+        requires sizes { other.now.size ≡ self.now.size }
+        requires across { rect.x + rect.w ≤ coded self.now.size.w }
+        requires down { rect.y + rect.h ≤ coded self.now.size.h }
+        ensures equal { IsTrue result ↔ IsSameBlock (picture_of self.now) (picture_of other.now) rect }
+        ensures ticks { steps.new ≡ steps.old + compared (same_places (picture_of self.now) (picture_of other.now) rect) }
+        ensures at_most { steps.new ≤ steps.old + rect.w * rect.h }
+    {
+        let Sides {
+            left,
+            right,
+            top,
+            bottom,
+        } = Sides::of(rect);
+        let n = right - left;
+        for y in top..bottom {
+            let front = equal_front(self.row_part(left, y, n), other.row_part(left, y, n), n);
+            if front < n {
+                steps.ticks(front as u64 + 1);
+                return false;
+            }
+            steps.ticks(n as u64);
+        }
+        true
     }
 }

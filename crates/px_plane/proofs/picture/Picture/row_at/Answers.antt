@@ -3,7 +3,8 @@ use Rattle.std.proofs.lemmas.Nat.{mul-le}
 use Rattle.h265_model.specs.Plain.{coded}
 use Rattle.px_plane.specs.Planes.{Planes, picture_of, plane_of}
 use Rattle.px_plane.proofs.Below.{row_is}
-use Rattle.px_plane.proofs.picture.Picture.row.Goals as goal
+use Rattle.px_plane.proofs.Shown.{picture_at}
+use Rattle.px_plane.proofs.picture.Picture.row_at.Goals as goal
 
 pub returns-clause-samples : goal.returns-clause-samples
 returns-clause-samples c =
@@ -17,5 +18,7 @@ returns-clause-samples c =
     let area : length plane ≡ coded c.args.self.now.size.h * stride = rw e (omega arith) in
     let long : at + c.args.n ≤ length plane = omega arith in
     let f : ℕ → ℕ = λ i. picture_of c.args.self.now c.args.component (c.args.x + i) c.args.y in
-    let each : (i : ℕ) → i < c.args.n → f i ≡ get_or plane (at + i) 0 = λ i h. rw (c.plane-plane.ensures.plane, e) (ap (λ (k : ℕ). get_or (plane_of c.args.self.now c.args.component) k 0) (omega arith)) in
+    let each : (i : ℕ) → i < c.args.n → f i ≡ get_or plane (at + i) 0 = λ i h.
+    picture_at c.args.self.now c.args.component (c.args.x + i) c.args.y (omega arith) c.requires.down
+    ∙ rw (c.plane-plane.ensures.plane, e) (ap (λ (k : ℕ). get_or (plane_of c.args.self.now c.args.component) k 0) (omega arith)) in
     rw n (row_is plane at c.args.n f long each)
