@@ -3,3 +3,4 @@ pub mod Lines
 pub mod Numbers
 pub mod Readings
 pub mod Splits
+pub mod Stored

@@ -1,4 +1,5 @@
 pub mod Answers
+pub mod Full
 pub mod Paint
 pub mod Refusals
 pub mod Scripts
