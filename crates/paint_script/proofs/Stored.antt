@@ -1,16 +1,15 @@
 -- A script's lines, where they stand.
-use Rattle.std.proofs.Common.{◌≡◌, ℕ, ◌+◌, ◌-◌, ◌<◌, ◌≤◌, ◌^◌, List, [], ◌∷◌, ◌++◌, length, map, get_or, refl, sym, ap, ◌∙◌, arith, Bool, true, false, ◌==◌, cond, count_by, inl, inr}
+use Rattle.std.proofs.Common.{◌≡◌, ℕ, ◌+◌, ◌-◌, ◌<◌, ◌≤◌, ◌^◌, List, [], ◌∷◌, ◌++◌, length, get_or, refl, sym, ap, ◌∙◌, arith, true, false, ◌==◌, cond, count_by, inl, inr}
 use Rattle.std.proofs.lemmas.List.Sums.{sum_by_push}
 use Rattle.std.proofs.lemmas.Bool.{cases_lt, eq-eqb, ne_eqb, cond-true, cond-false}
 use Rattle.std.proofs.lemmas.List.{map_push, length_push, length-map, get_or_append_left, get_or_push}
-use Rattle.std.proofs.lemmas.List.Elements.{All-push, All-head, All-tail, All-weaker, All-cons, All-nil}
-use Rattle.std.proofs.lemmas.Grind.{common_steps}
-use Rattle.std.specs.List.{All, slice_get, sum_by}
+use Rattle.std.proofs.lemmas.List.Elements.{All-push, All-head, All-tail, All-weaker}
+use Rattle.std.specs.List.{All}
 use Rattle.h265_model.specs.Script.{is_cut}
 use Rattle.h265_model.specs.declared.line.Line.{Line}
 use Rattle.h265_model.specs.declared.line.Line.TheVariants.{Fill, Blit, Cut}
-use Rattle.paint_script.specs.Spellable.{IsSpellable, AreSpellable}
-use Rattle.paint_script.specs.Scripts.{IsScript, IsStored, line_at, lines_at}
+use Rattle.paint_script.specs.Spellable.{IsSpellable}
+use Rattle.paint_script.specs.Scripts.{IsStored, line_at, lines_at}
 
 abbrev IsWithin : List Line → ℕ → Type 0
 IsWithin paints place = place ≤ length paints
@@ -19,10 +18,11 @@ IsWithin paints place = place ≤ length paints
 line_at-more : (paints : List Line) (line : Line) (place : ℕ) → place ≤ length paints → line_at (paints ++ line ∷ []) place ≡ line_at paints place
 line_at-more paints line place h =
     elim (cases_lt 0 place) [
-      inl above ↦ ap (λ x. cond (place == 0) Cut x) (get_or_append_left paints (line ∷ []) Cut (place - 1) (omega arith))
+      | inl above ↦ ap (λ x. cond (place == 0) Cut x) (get_or_append_left paints (line ∷ []) Cut (place - 1) (omega arith))
       | inr none ↦ (let zero_place : (place == 0) ≡ true = eq-eqb place 0 (omega arith) in
-        cond-true (place == 0) Cut (get_or (paints ++ line ∷ []) (place - 1) Cut) zero_place
-        ∙ sym (cond-true (place == 0) Cut (get_or paints (place - 1) Cut) zero_place)) ]
+          cond-true (place == 0) Cut (get_or (paints ++ line ∷ []) (place - 1) Cut) zero_place
+          ∙ sym (cond-true (place == 0) Cut (get_or paints (place - 1) Cut) zero_place))
+    ]
 
 line_at-new : (paints : List Line) (line : Line) → line_at (paints ++ line ∷ []) (length paints + 1) ≡ line
 line_at-new paints line =

@@ -1,7 +1,7 @@
-use Rattle.std.proofs.Common.{◌≡◌, ◌∷◌, [], ◌++◌, ◌+◌, ◌<◌, ◌^◌, true, false, not, length, arith, sym, ap, ◌∙◌, is_ok}
+use Rattle.std.proofs.Common.{◌≡◌, ◌∷◌, [], ◌++◌, ◌+◌, ◌<◌, ◌^◌, true, not, length, arith, ap, ◌∙◌, is_ok}
 use Rattle.std.proofs.lemmas.Bool.{cond-true}
 use Rattle.std.proofs.lemmas.List.{length-map}
-use Rattle.paint_script.specs.Scripts.{line_at, lines_at, IsStored}
+use Rattle.paint_script.specs.Scripts.{line_at, lines_at}
 use Rattle.paint_script.proofs.Stored.{lines_at-paint, IsStored-paint, is_cut-paint}
 use Rattle.paint_script.proofs.script.Script.add.Goals as goal
 
@@ -30,6 +30,6 @@ returns c =
     let new_places : c.push-2.new.self.items ≡ places ++ (length paints + 1) ∷ [] = c.in_ok-push-2.ensures.items ∙ ap (λ n. places ++ n ∷ []) count in
     let viewed : lines_at paints places ≡ c.args.self.now = c.self.view_is in
     let grown : lines_at c.push-3.new.self.items c.push-2.new.self.items ≡ c.args.self.now ++ line ∷ [] =
-      ap (λ ls. lines_at ls c.push-2.new.self.items) new_paints ∙ ap (lines_at (paints ++ line ∷ [])) new_places
-        ∙ lines_at-paint paints line places c.self.invariant.within ∙ ap (λ ls. ls ++ line ∷ []) viewed in
+    ap (λ ls. lines_at ls c.push-2.new.self.items) new_paints ∙ ap (lines_at (paints ++ line ∷ [])) new_places
+    ∙ lines_at-paint paints line places c.self.invariant.within ∙ ap (λ ls. ls ++ line ∷ []) viewed in
     record { added = grown; unchanged = tt }
