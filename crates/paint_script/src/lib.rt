@@ -9,6 +9,8 @@ mod read;
 mod script;
 mod scripts;
 mod split;
+#[cfg(test)]
+mod tests;
 mod write;
 
 pub use laws::each_script_is_read_back;
