@@ -1,5 +1,5 @@
 //! Reading a script.
-ghost use Rattle.std.specs.Prelude.{◌≡◌, ◌==◌, ◌<◌, ◌^◌, length, count_by, Ok, IfOk, IfErr};
+ghost use Rattle.std.specs.Prelude.{◌≡◌, ◌==◌, ◌<◌, ◌^◌, length, count_by, IfOk, IfErr};
 ghost use Rattle.h265_model.specs.Script.{script_of};
 ghost use Rattle.paint_script.specs.Refusals.{IsRefusal};
 

@@ -1,5 +1,5 @@
 //! Writing a script.
-ghost use Rattle.std.specs.Prelude.{◌≡◌, ◌<◌, ◌≤◌, ◌∷◌, [], ◌++◌, flat_map, Ok, IfOk, OnOk};
+ghost use Rattle.std.specs.Prelude.{◌≡◌, ◌<◌, ◌≤◌, ◌∷◌, [], ◌++◌, flat_map, IfOk, OnOk};
 ghost use Rattle.h265_model.specs.Script as grammar;
 ghost use Rattle.paint_script.specs.Spellable.{IsSpellable, IsSpellableRect};
 
