@@ -18,13 +18,13 @@ after_lines-after before line (Ok lines) = ap Ok (sym (append_assoc before (line
 after_lines-after before line (Err bad) = refl
 
 -- the pieces of a text with a line feed
-pieces-line : (n : ℕ) (piece : List ℕ) (pieces : List (List ℕ)) → HasFirst pieces → pieces_script n (piece ∷ pieces) ≡ (at_line n (line_of piece) >>- λ line. pieces_script (n + 1) pieces >>- λ lines. Ok (line ∷ lines))
+pub pieces-line : (n : ℕ) (piece : List ℕ) (pieces : List (List ℕ)) → HasFirst pieces → pieces_script n (piece ∷ pieces) ≡ (at_line n (line_of piece) >>- λ line. pieces_script (n + 1) pieces >>- λ lines. Ok (line ∷ lines))
 unfolding pieces_script
 pieces-line n piece [] more = let no : [] ≡ more.first ∷ more.others = more.is in cc
 pieces-line n [] (next ∷ pieces) more = refl
 pieces-line n (c ∷ cs) (next ∷ pieces) more = refl
 
-onto-line : (line : Line) (read : Result (List Line) BadLine) → (read >>- λ lines. Ok (line ∷ lines)) ≡ after_lines (line ∷ []) read
+pub onto-line : (line : Line) (read : Result (List Line) BadLine) → (read >>- λ lines. Ok (line ∷ lines)) ≡ after_lines (line ∷ []) read
 onto-line line (Ok lines) = refl
 onto-line line (Err bad) = refl
 

@@ -1,5 +1,5 @@
 //! Reading a script.
-ghost use Rattle.std.specs.Prelude.{◌≡◌, ◌<◌, ◌^◌, length, Ok, IfOk, IfErr};
+ghost use Rattle.std.specs.Prelude.{◌≡◌, ◌==◌, ◌<◌, ◌^◌, length, count_by, IfOk, IfErr};
 ghost use Rattle.h265_model.specs.Script.{script_of};
 ghost use Rattle.paint_script.specs.Refusals.{IsRefusal};
 
@@ -21,6 +21,26 @@ pub enum ScriptError {
     NoMemory,
 }
 
+impl From<NoMemory> for ScriptError {
+    ghost use Rattle.std.specs.Prelude.{◌≡◌};
+    ghost use Rattle.paint_script.specs.declared.read.ScriptError.{ScriptError};
+
+    ghost from_gives = { λ _ e. e ≡ ScriptError.NoMemory };
+
+    fn from(_: NoMemory) -> Self {
+        ScriptError::NoMemory
+    }
+}
+
+// The bytes of the shortest line that paints, `fill 0 0 1 1 000000` with its line feed.
+const SHORTEST_PAINT: usize = 20;
+
+fn line_feeds(bytes: &[u8]) -> usize
+    ensures { result ≡ count_by (λ c. c == 10) bytes.now }
+{
+    bytes.iter().filter(|byte| **byte == b'\n').count()
+}
+
 /// Reads a script.
 ///
 /// `BadLine` is the first bad line, with the first cause that applies to it. The script takes at most four times the
@@ -30,14 +50,16 @@ pub fn read_script(alloc: Global, bytes: &[u8]) -> Result<Script, ScriptError>
     ensures read { IfOk result (λ lines. script_of bytes.now ≡ Ok lines) }
     ensures refused { IfErr result (IsRefusal (script_of bytes.now)) }
 {
-    let mut script = Script::empty(alloc);
+    let lines = line_feeds(bytes);
+    let paints = lines.min(bytes.len() / SHORTEST_PAINT);
+    let mut script = Script::with_capacity(alloc, lines, paints)?;
     let mut rest = bytes;
     while let Some((text, next)) = split_once(rest, b'\n') {
         match read_line(alloc, text) {
-            Ok(line) => match script.add(line) {
-                Ok(()) => rest = next,
-                Err(NoMemory) => return Err(ScriptError::NoMemory),
-            },
+            Ok(line) => {
+                script.add(line)?;
+                rest = next;
+            }
             Err(LineError::Bad(cause)) => {
                 let line = script.lines() + 1;
                 return Err(ScriptError::BadLine { line, cause });

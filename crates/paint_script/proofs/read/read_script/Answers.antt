@@ -9,13 +9,13 @@ pub loop-text-init : goal.loop-text-init
 loop-text-init c =
     let start = read-start c.args.bytes.now in
     record {
-      so_far = rw c.empty-script.ensures start;
-      room = rw c.empty-script.ensures (omega arith);
+      so_far = rw c.in_ok-script.ensures start;
+      room = rw c.in_ok-script.ensures (omega arith);
     }
 
 pub loop-text-preserved : goal.loop-text-preserved
 loop-text-preserved c =
-    let added = c.in-Ok-add.ensures.added in
+    let added = c.in_ok-add-in-Ok.ensures.added in
     let line : line_of c.in-Some.text.now ≡ Ok c.in-Ok.line = c.in-Ok.ensures.value in
     record {
       so_far = rw added (read-line c.args.bytes.now c.loop-text.script c.loop-text.rest.now c.in-Some.text.now c.in-Some.next.now c.in-Ok.line c.loop-text.invariant.so_far c.in-Some.ensures.pieces line);

@@ -1,0 +1,16 @@
+-- Why a script isn't added to others.
+use Rattle.std.specs.Prelude.{List, Result, Ok, Err}
+use Rattle.h265_model.specs.declared.line.Line.{Line}
+use Rattle.paint_script.specs.declared.scripts.AddError.{AddError}
+use Rattle.paint_script.specs.declared.scripts.AddError.TheVariants.{Full, NoMemory}
+
+-- the script that an error hands back
+abbrev pub given_back : AddError → List Line
+given_back (Full script) = script
+given_back (NoMemory script) = script
+
+-- there was no room for one more
+abbrev pub IsFull : Result (Unit {0}) AddError → Type 0
+IsFull (Ok done) = ⊥
+IsFull (Err (Full script)) = Unit {0}
+IsFull (Err (NoMemory script)) = ⊥
