@@ -1,5 +1,5 @@
 -- The row of words, by their first word.
-use Rattle.std.proofs.Common.{◌≡◌, ℕ, Bool, true, false, cond, List, [], ◌∷◌, length, refl, ap, sym, ◌∙◌, arith}
+use Rattle.std.proofs.Common.{◌≡◌, ℕ, true, false, List, [], ◌∷◌, length, refl, arith}
 use Rattle.std.specs.Prelude.{Option, None, bytes_eq, codes}
 use Rattle.std.specs.Borrow.{Bor}
 use Rattle.h265_model.specs.Words.{Row, row_of, record_words, serial_words, demo_words, decode_words}

@@ -7,3 +7,6 @@ mod size;
 
 pub use read::read_words;
 pub use row::{DecodeWords, RecordWords, Row, SerialWords, Settings};
+
+#[cfg(test)]
+mod tests;

@@ -10,11 +10,11 @@ returns-in_err-w c =
 pub returns-in-Some : goal.returns-in-Some
 returns-in-Some c =
     two_x c.args.word.now c.in_ok-w.w.now c.in_ok-w.h.now c.in-Some.field-0.0.now c.in-Some.field-0.1.now
-      (split_once_first 120 c.args.word.now (Some (c.in_ok-w.w, c.in_ok-w.h)) c.in_ok-w.ensures.cases (lit< tt))
-      (split_once_first 120 c.in_ok-w.h.now (Some c.in-Some.field-0) c.in-Some.ensures.cases (lit< tt))
+    (split_once_first 120 c.args.word.now (Some (c.in_ok-w.w, c.in_ok-w.h)) c.in_ok-w.ensures.cases (lit< tt))
+    (split_once_first 120 c.in_ok-w.h.now (Some c.in-Some.field-0) c.in-Some.ensures.cases (lit< tt))
 
 pub returns-in-None : goal.returns-in-None
 returns-in-None c =
     one_x c.args.word.now c.in_ok-w.w.now c.in_ok-w.h.now
-      (split_once_first 120 c.args.word.now (Some (c.in_ok-w.w, c.in_ok-w.h)) c.in_ok-w.ensures.cases (lit< tt))
-      (split_once_first 120 c.in_ok-w.h.now None c.in-None.ensures.cases (lit< tt))
+    (split_once_first 120 c.args.word.now (Some (c.in_ok-w.w, c.in_ok-w.h)) c.in_ok-w.ensures.cases (lit< tt))
+    (split_once_first 120 c.in_ok-w.h.now None c.in-None.ensures.cases (lit< tt))
