@@ -105,15 +105,6 @@ impl Script {
         self.places.len() as u32
     }
 
-    /// Lends the lines.
-    pub fn as_slice(&self) -> &[Line]
-        ensures lines { result.now ≡ self.now }
-        ensures few { length self.now < 2 ^ 32 }
-        ensures spellable { AreSpellable self.now }
-    {
-        &self.lines
-    }
-
     /// How many lines are `cut`.
     pub fn cuts(&self) -> u32
         ensures { result ≡ count_by is_cut self.now }

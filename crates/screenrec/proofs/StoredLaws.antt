@@ -4,7 +4,8 @@ use Rattle.std.proofs.lemmas.Grind.{flat_map-append}
 use Rattle.std.proofs.lemmas.List.{get_or_at}
 use Rattle.h265_model.proofs.ListParts.{take_front}
 use Rattle.std.specs.Prelude.{slice_index_or, fold, IfOk}
-use Rattle.std.specs.List.{last_or}
+use Rattle.std.specs.List.{last_or, slice_get}
+use Rattle.paint_script.specs.Spellable.{IsSpellable, AreSpellable}
 use Rattle.std.specs.FinMap.{insert}
 use Rattle.h265_model.specs.declared.line.Line.{Line}
 use Rattle.h265_model.specs.declared.line.Line.TheVariants.{Fill, Blit, Cut}
@@ -17,7 +18,6 @@ use Rattle.h265_model.specs.NalUnits.{stream_bytes, escape_after}
 use Rattle.h265_model.specs.Bits.{u, ue, digits_up_to, value_after, bytes}
 use Rattle.h265_model.specs.Fields.{fields_bits}
 use Rattle.h265_model.specs.ParamSets.{param_units, profile_tier_level, vps_front, vps_back, sps_formats, sps_front, size_fields, sps_back, pps_fields}
-use Rattle.screenrec.specs.declared.stream_file.TheConstants.{PARAMETER_SETS}
 use Rattle.h265_model.specs.Stream.{pieces, pieces_after, picture_piece, stream_of}
 use Rattle.edges.specs.Shelf.{AppendsTo}
 use Rattle.h265_model.specs.Files.{Files, file_at, IsPrefix, WhereTold}
@@ -221,10 +221,13 @@ first_stands a b name first is told =
     (λ before after. (start : Files) → before ≡ insert start name [] → after ≡ insert start name (stream_after [])) told
     (λ x y p start e. grown start x y name [] first e p ∙ ap (insert start name) is)
 
--- the parameter sets of one coding tree unit, byte for byte
-pub parameter_sets : PARAMETER_SETS ≡ stream_after []
-unfolding pieces pieces_after rasters_after param_units stream_bytes profile_tier_level vps_front vps_back sps_formats sps_front size_fields sps_back pps_fields fields_bits u ue digits_up_to value_after bytes escape_after
-parameter_sets = refl
+-- the parameter sets of one coding tree unit are the first piece
+pub parameter_sets : stream_bytes (param_units one_ctu) ≡ stream_after []
+parameter_sets = sym (ap joined none_cut ∙ append-nil (stream_bytes (param_units one_ctu)))
+
+pub sets_short : length (stream_bytes (param_units one_ctu)) ≡ 74
+unfolding param_units stream_bytes profile_tier_level vps_front vps_back sps_formats sps_front size_fields sps_back pps_fields fields_bits u ue digits_up_to value_after bytes escape_after
+sets_short = refl
 
 pub pieces_told : (a b c : Option Files) (name : List ℕ) (lines : List Line) (result : Result (Unit {0}) WriteError) (written : ℕ) →
     WhereTold a b (λ before after. (start : Files) → before ≡ insert start name [] → after ≡ insert start name (stream_after [])) →
@@ -235,3 +238,9 @@ pieces_told a b c name lines result written first second =
     (λ before after. (start : Files) → before ≡ insert start name (stream_after []) → EndsIn name lines start after result written)
     (λ before after. (start : Files) → before ≡ insert start name [] → EndsIn name lines start after result written)
     first second (λ x y z p q start e. q start (p start e))
+
+-- a line of a script can be spelled
+pub spellable_at : (lines : List Line) (i : ℕ) (line : Line) → AreSpellable lines → Some line ≡ slice_get lines i → IsSpellable line
+spellable_at [] i line all e = absurd (cc)
+spellable_at (x ∷ lines) zero line all e = let same : line ≡ x = cc in subst IsSpellable (sym same) (all 0 x (omega arith))
+spellable_at (x ∷ lines) (suc i) line all e = spellable_at lines i line (λ k d h. all (suc k) d (omega arith)) e

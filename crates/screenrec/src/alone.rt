@@ -82,7 +82,7 @@ fn record_script<F: Shelf, K: Sink>(
     let Ok(order) = entries(alloc, script.lines()) else {
         return Outcome::refused(alloc, Status::NoMemory);
     };
-    let ending = match write_stream(alloc, script.as_slice(), out, shelf) {
+    let ending = match write_stream(alloc, script, out, shelf) {
         Ok(ending) => ending,
         Err(error) => return Outcome::refused(alloc, status_of(error)),
     };

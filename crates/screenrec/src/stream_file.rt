@@ -1,5 +1,5 @@
 //! The stream of a script's pictures, written to a file piece by piece.
-ghost use Rattle.std.specs.Prelude.{◌≡◌, ℕ, ◌+◌, ◌^◌, ◌<◌, ◌≤◌, ◌++◌, ◌∷◌, [], List, Option, IfOk, length};
+ghost use Rattle.std.specs.Prelude.{◌≡◌, ℕ, ◌+◌, ◌^◌, ◌<◌, ◌≤◌, ◌++◌, ◌∷◌, [], List, Option, IfOk, length, slice_index_or};
 ghost use Rattle.std.specs.FinMap.{insert};
 ghost use Rattle.std.specs.List.{All};
 ghost use Rattle.h265_model.specs.declared.line.Line.{Line};
@@ -16,17 +16,10 @@ ghost use Rattle.screenrec.specs.Endings.{ending_of, EndsAnew};
 use crate::pcm_picture::pcm_piece;
 use edges::{Shelf, WriteError};
 use h265_model::{Line, NoMemory};
+use paint_script::Script;
+use param_sets::{Params, write_params};
 use px_plane::{Picture, Size};
 use std::alloc::Global;
-
-// The parameter sets of 32x32 (7.3.2.1 to 7.3.2.3), each after a start code.
-const PARAMETER_SETS: [u8; 74] = [
-    0x00, 0x00, 0x00, 0x01, 0x40, 0x01, 0x0C, 0x01, 0xFF, 0xFF, 0x24, 0x08, 0x00, 0x00, 0x03, 0x00,
-    0xBE, 0x08, 0x00, 0x00, 0x03, 0x00, 0x00, 0x9C, 0xAC, 0x09, 0x00, 0x00, 0x00, 0x01, 0x42, 0x01,
-    0x01, 0x24, 0x08, 0x00, 0x00, 0x03, 0x00, 0xBE, 0x08, 0x00, 0x00, 0x03, 0x00, 0x00, 0x9C, 0x90,
-    0x08, 0x41, 0x0B, 0x2D, 0x77, 0x26, 0x2E, 0xF7, 0x4B, 0x89, 0xB8, 0x08, 0x68, 0x00, 0x04, 0x00,
-    0x00, 0x00, 0x01, 0x44, 0x01, 0xC0, 0x71, 0x8A, 0xA4, 0x80,
-];
 
 /// How the writing of a stream ended, and the bytes of the pieces that were appended whole.
 #[derive(Debug, Drop)]
@@ -93,17 +86,28 @@ fn play_line<F: Shelf>(
     }
 }
 
+// The line of this number.
+fn line_at(script: &Script, index: u32) -> &Line
+    requires inside { index < length script.now }
+    requires spellable { AreSpellable script.now }
+    ensures line { result.now ≡ slice_index_or script.now index result.now }
+    ensures spellable { IsSpellable result.now }
+{
+    match script.line(index) {
+        Some(line) => line,
+        None => unreachable!(),
+    }
+}
+
 // Plays the lines, and writes the pieces of their pictures after the first piece of the stream.
 fn write_pictures<F: Shelf>(
     alloc: Global,
-    lines: &[Line],
+    script: &Script,
     mut picture: Picture,
     name: &str,
     shelf: &mut F,
     first: u64,
 ) -> Ending
-    requires few { length lines.now < 2 ^ 32 }
-    requires spellable { AreSpellable lines.now }
     requires sized { picture.size ≡ one_ctu }
     requires blank { ShowsLines picture [] }
     requires first { first ≡ length (stream_after []) }
@@ -111,11 +115,11 @@ fn write_pictures<F: Shelf>(
     ensures cause { HasWriteCause (F.write_faults shelf.old) (F.write_faults shelf.new) result.result }
     ensures reads { F.read_faults shelf.new ≡ F.read_faults shelf.old }
     ensures files { WhereTold (F.files shelf.old) (F.files shelf.new) (λ before after. (start : Files) →
-        before ≡ insert start name.now (stream_after []) → EndsIn name.now lines.now start after result.result result.written) }
+        before ≡ insert start name.now (stream_after []) → EndsIn name.now script.now start after result.result result.written) }
 {
     let mut written = first;
-    for line in lines {
-        match play_line(alloc, line, &mut picture, name, shelf) {
+    for index in 0..script.lines() {
+        match play_line(alloc, line_at(script, index), &mut picture, name, shelf) {
             Ok(count) => written += count,
             Err(error) => {
                 return Ending {
@@ -139,22 +143,20 @@ fn write_pictures<F: Shelf>(
 /// The file was not made, and nothing was written: `Failed` only where a write failed, or `NoMemory`.
 pub fn write_stream<F: Shelf>(
     alloc: Global,
-    lines: &[Line],
+    script: &Script,
     name: &str,
     shelf: &mut F,
 ) -> Result<Ending, WriteError>
-    requires few { length lines.now < 2 ^ 32 }
-    requires spellable { AreSpellable lines.now }
     ensures cause { HasWriteCause (F.write_faults shelf.old) (F.write_faults shelf.new) (ending_of result) }
     ensures reads { F.read_faults shelf.new ≡ F.read_faults shelf.old }
     ensures files { WhereTold (F.files shelf.old) (F.files shelf.new) (λ before after.
-        EndsAnew name.now lines.now before after result) }
+        EndsAnew name.now script.now before after result) }
 {
     let Ok(start) = make_start(alloc) else {
         return Err(WriteError::NoMemory);
     };
     shelf.create(name)?;
-    Ok(write_pieces(alloc, lines, start, name, shelf))
+    Ok(write_pieces(alloc, script, start, name, shelf))
 }
 
 // What a stream begins with: the parameter sets, and a black desktop.
@@ -170,8 +172,8 @@ fn make_start(alloc: Global) -> Result<Start, NoMemory>
     ensures sized { IfOk result (λ start. start.picture.size ≡ one_ctu) }
     ensures blank { IfOk result (λ start. ShowsLines start.picture []) }
 {
-    let first = Vec::from_slice(alloc, &PARAMETER_SETS)?;
     let size = Size::new(32, 32).unwrap();
+    let first = write_params(alloc, &Params { size })?;
     let picture = Picture::black(alloc, size)?;
     Ok(Start { first, picture })
 }
@@ -179,13 +181,11 @@ fn make_start(alloc: Global) -> Result<Start, NoMemory>
 // Appends the first piece to the empty file, and then those of the pictures.
 fn write_pieces<F: Shelf>(
     alloc: Global,
-    lines: &[Line],
+    script: &Script,
     start: Start,
     name: &str,
     shelf: &mut F,
 ) -> Ending
-    requires few { length lines.now < 2 ^ 32 }
-    requires spellable { AreSpellable lines.now }
     requires first { start.first.items ≡ stream_after [] }
     requires short { length start.first.items ≤ 8192 }
     requires sized { start.picture.size ≡ one_ctu }
@@ -193,7 +193,7 @@ fn write_pieces<F: Shelf>(
     ensures cause { HasWriteCause (F.write_faults shelf.old) (F.write_faults shelf.new) result.result }
     ensures reads { F.read_faults shelf.new ≡ F.read_faults shelf.old }
     ensures files { WhereTold (F.files shelf.old) (F.files shelf.new) (λ before after. (before_that : Files) →
-        before ≡ insert before_that name.now [] → EndsIn name.now lines.now before_that after result.result result.written) }
+        before ≡ insert before_that name.now [] → EndsIn name.now script.now before_that after result.result result.written) }
 {
     let Start { first, picture } = start;
     if let Err(error) = shelf.append(name, &first) {
@@ -202,5 +202,5 @@ fn write_pieces<F: Shelf>(
             written: 0,
         };
     }
-    write_pictures(alloc, lines, picture, name, shelf, first.len() as u64)
+    write_pictures(alloc, script, picture, name, shelf, first.len() as u64)
 }

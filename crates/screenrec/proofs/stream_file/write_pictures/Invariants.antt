@@ -7,13 +7,13 @@ use Rattle.screenrec.specs.Stored.{stream_after}
 use Rattle.screenrec.proofs.stream_file.write_pictures.Given as goal
 
 -- what the lines so far show stands in the picture and in the file
-abbrev pub invariant-loop-line : goal.invariant-loop-line
-invariant-loop-line g l = record {
-  told : WhereTold (g.F.Shelf.files l.fn.shelf) (g.F.Shelf.files l.shelf) (λ before now. (start : Files) → before ≡ insert start l.name (stream_after []) → now ≡ insert start l.name (stream_after (take l.line-index l.lines)));
-  counted : l.written ≡ length (stream_after (take l.line-index l.lines));
-  shown : ShowsLines l.picture (take l.line-index l.lines);
+abbrev pub invariant-loop-index : goal.invariant-loop-index
+invariant-loop-index g l = record {
+  told : WhereTold (g.F.Shelf.files l.fn.shelf) (g.F.Shelf.files l.shelf) (λ before now. (start : Files) → before ≡ insert start l.name (stream_after []) → now ≡ insert start l.name (stream_after (take l.index l.script)));
+  counted : l.written ≡ length (stream_after (take l.index l.script));
+  shown : ShowsLines l.picture (take l.index l.script);
   sized : l.picture.size ≡ one_ctu;
-  short : l.written ≤ 8192 + 8192 * l.line-index;
+  short : l.written ≤ 8192 + 8192 * l.index;
   later : g.F.Shelf.write_faults l.fn.shelf ≤ g.F.Shelf.write_faults l.shelf;
   reads : g.F.Shelf.read_faults l.shelf ≡ g.F.Shelf.read_faults l.fn.shelf;
 }
