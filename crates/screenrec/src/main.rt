@@ -23,57 +23,55 @@ use edges::{DiskShelf, NoGate, StreamSink};
 use h265_model::NoMemory;
 use std::alloc::Global;
 use std::env;
-use std::fs::File;
 use std::process::ExitCode;
-use std::rt::{Env, Files};
-use std::sync::Wait;
-use std::thread::Threads;
+use std::rt::Env;
 
-/// Reads the words, serves them, and exits with the number of the status. Where that isn't 0, one line on standard error
-/// says why.
+/// Serves the words by the call that their first one names, and exits with the number of the status. Where that isn't 0,
+/// one line on standard error says why.
 fn main(rt: HostRuntime) -> ExitCode {
-    let status = answer(&rt);
-    if status != Status::Ok {
-        let _ = rt.eprintln(Complaint(status));
-    }
-    ExitCode::from(status.number())
+    let alloc = rt.alloc();
+    let texts = match arguments(&rt, alloc) {
+        Ok(texts) => texts,
+        Err(status) => return finish(&rt, status),
+    };
+    let Ok(words) = borrowed(alloc, &texts) else {
+        return finish(&rt, Status::NoMemory);
+    };
+    let mut shelf = DiskShelf::new(alloc, &rt);
+    let mut report = StreamSink::new(&rt);
+    let outcome = match words.first().copied().unwrap_or("") {
+        "serial" => run_serial(alloc, &words, &mut shelf, &mut report),
+        "demo" => run_demo(alloc, &words, &mut report),
+        _ => run(&rt, alloc, &words, &mut shelf, &mut report, &NoGate),
+    };
+    finish(&rt, outcome.status)
 }
 
-// The status of the words that the program was given; words that aren't UTF-8 are in no row of the table.
-fn answer<R: Files<File = File> + Print + Env + AllocGlobal + Threads + Wait + Sync>(rt: &R) -> Status {
-    let alloc = rt.alloc();
+// The words after the program's name. Words that aren't UTF-8 are in no row of the table.
+fn arguments<R: Env + AllocGlobal>(rt: &R, alloc: Global) -> Result<Vec<String>, Status> {
     let Ok(args) = env::args(rt) else {
-        return Status::Usage;
+        return Err(Status::Usage);
     };
-    let mut texts: Vec<String> = Vec::new(alloc);
+    let mut texts = Vec::new(alloc);
     for word in args.skip(1) {
         if texts.push(word).is_err() {
-            return Status::NoMemory;
+            return Err(Status::NoMemory);
         }
     }
-    match served(rt, alloc, &texts) {
-        Ok(status) => status,
-        Err(NoMemory) => Status::NoMemory,
-    }
+    Ok(texts)
 }
 
-// Serves the words by the call that their first one names.
-fn served<R: Files<File = File> + Print + Threads + Wait + Sync>(
-    rt: &R,
-    alloc: Global,
-    texts: &[String],
-) -> Result<Status, NoMemory> {
+fn borrowed<'a>(alloc: Global, texts: &'a [String]) -> Result<Vec<&'a str>, NoMemory> {
     let mut words = Vec::new(alloc);
     for text in texts {
         words.push(text.as_str())?;
     }
-    let mut shelf = DiskShelf::new(alloc, rt);
-    let mut report = StreamSink::new(rt);
-    let first = words.first().copied().unwrap_or("");
-    let outcome = match first {
-        "serial" => run_serial(alloc, &words, &mut shelf, &mut report),
-        "demo" => run_demo(alloc, &words, &mut report),
-        _ => run(rt, alloc, &words, &mut shelf, &mut report, &NoGate),
-    };
-    Ok(outcome.status)
+    Ok(words)
+}
+
+fn finish<R: Eprint>(rt: &R, status: Status) -> ExitCode {
+    if status != Status::Ok {
+        let _ = rt.eprintln(Complaint(status));
+    }
+    ExitCode::from(status.number())
 }
