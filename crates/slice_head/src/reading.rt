@@ -30,7 +30,10 @@ pub fn read_head(alloc: Global, rbsp: &[u8], idr: bool, rows: u32) -> Result<(He
     };
     match from.align_one() {
         None => Err(HeadError::BadHead { field: 13 }),
-        Some(()) => Ok((Head { idr, poc, offsets }, rbsp.len().saturating_sub(from.bytes_left()) as u64)),
+        Some(()) => Ok((
+            Head { idr, poc, offsets },
+            rbsp.len().saturating_sub(from.bytes_left()) as u64,
+        )),
     }
 }
 
@@ -72,7 +75,14 @@ fn read_known(from: &mut BitReader, number: u32, value: u32) -> Result<(), u32>
         (λ field. read_fields (golomb number value ∷ []) from.old.left ≡ Err field) }
 {
     let coding = Descriptor::Ue;
-    read_fields(from, &[Field { number, coding, value }])
+    read_fields(
+        from,
+        &[Field {
+            number,
+            coding,
+            value,
+        }],
+    )
 }
 
 fn read_poc(from: &mut BitReader, idr: bool) -> Result<u32, u32>

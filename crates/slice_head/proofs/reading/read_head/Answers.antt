@@ -29,4 +29,4 @@ returns-in-Some c =
     let rest = c.align_one.new.self in
     let aligned = aligned_some (read_alignment z.left) z rest c.in-Some.ensures.value c.in-Some.ensures.after in
     head_read c.args.rbsp.now c.args.idr c.args.rows c.in-Ok.poc c.read_front.new.from.left c.in-Ok-read_entries.offsets z.left rest.left c.saturating_sub.result
-      front c.in-Ok-read_entries.ensures aligned (c.saturating_sub.ensures ∙ ap (λ n. length c.args.rbsp.now - n) c.bytes_left.ensures)
+    front c.in-Ok-read_entries.ensures aligned (c.saturating_sub.ensures ∙ ap (λ n. length c.args.rbsp.now - n) c.bytes_left.ensures)

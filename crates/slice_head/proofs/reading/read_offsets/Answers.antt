@@ -16,7 +16,7 @@ returns-in_default c =
       | in_default-via-in-Some+else-last-lt4294967295 w ↦
           l.invariant
           ∙ offset_overflows k j w.in-Some.last l.from.left c.bits.new.self.left l.offsets.items more
-            (read_some (read_u 32 l.from.left) w.in-Some.last l.from c.bits.new.self (sym w.in-Some.is ∙ c.bits.ensures.value) c.bits.ensures.after) w.if-last-lt4294967295.false
+          (read_some (read_u 32 l.from.left) w.in-Some.last l.from c.bits.new.self (sym w.in-Some.is ∙ c.bits.ensures.value) c.bits.ensures.after) w.if-last-lt4294967295.false
       | in_default-via-in_default w ↦
           l.invariant ∙ offset_ends k j l.from.left l.offsets.items more (read_none (read_u 32 l.from.left) (sym w.in_default.is ∙ c.bits.ensures.value))
     ]
