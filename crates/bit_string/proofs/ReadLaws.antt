@@ -76,7 +76,7 @@ two_fronts m n bs h k =
     let a = take m bs in
     let b = take n (drop m bs) in
     let whole : bs ≡ (a ++ b) ++ drop n (drop m bs) =
-      sym (take-append-drop m bs) ∙ ap (λ l. a ++ l) (sym (take-append-drop n (drop m bs))) ∙ sym (append_assoc a b (drop n (drop m bs))) in
+    sym (take-append-drop m bs) ∙ ap (λ l. a ++ l) (sym (take-append-drop n (drop m bs))) ∙ sym (append_assoc a b (drop n (drop m bs))) in
     let la = length-take-le m bs h in
     let lb = length-take-le n (drop m bs) (omega (arith, length-drop m bs)) in
     let long : length (a ++ b) ≡ m + n = omega (arith, length-append a b) in
@@ -95,18 +95,18 @@ some_long n v w bs mid rest h a b e k =
     let last = take 32 (drop m bs) in
     let long : length last ≡ 32 = length-take-le 32 (drop m bs) (omega (arith, s.fits)) in
     let number : value (take n bs) ≡ bit_or (v * 2 ^ 32 % 2 ^ 64) w =
-      ap (λ k. value (take k bs)) (sym whole)
-      ∙ ap value (two_fronts m 32 bs r.fits (omega (arith, s.fits)))
-      ∙ value_after-append 0 (take m bs) last
-      ∙ value_after-from (value (take m bs)) last
-      ∙ ap (λ k. value (take m bs) * 2 ^ k + value last) long
-      ∙ ap (λ x. x * 2 ^ 32 + value last) r.number
-      ∙ ap (λ l. v * 2 ^ 32 + value (take 32 l)) r.rest
-      ∙ ap (λ x. v * 2 ^ 32 + x) s.number
-      ∙ sym (or_shifted v 32 w b)
-      ∙ ap (λ x. bit_or x w) (sym (shl_whole v 32 32 64 a (omega arith))) in
+    ap (λ k. value (take k bs)) (sym whole)
+    ∙ ap value (two_fronts m 32 bs r.fits (omega (arith, s.fits)))
+    ∙ value_after-append 0 (take m bs) last
+    ∙ value_after-from (value (take m bs)) last
+    ∙ ap (λ k. value (take m bs) * 2 ^ k + value last) long
+    ∙ ap (λ x. x * 2 ^ 32 + value last) r.number
+    ∙ ap (λ l. v * 2 ^ 32 + value (take 32 l)) r.rest
+    ∙ ap (λ x. v * 2 ^ 32 + x) s.number
+    ∙ sym (or_shifted v 32 w b)
+    ∙ ap (λ x. bit_or x w) (sym (shl_whole v 32 32 64 a (omega arith))) in
     let left : drop n bs ≡ rest =
-      ap (λ k. drop k bs) (sym whole) ∙ sym (drop-drop 32 m bs) ∙ ap (drop 32) r.rest ∙ s.rest in
+    ap (λ k. drop k bs) (sym whole) ∙ sym (drop-drop 32 m bs) ∙ ap (drop 32) r.rest ∙ s.rest in
     let F : ℕ → Option (ℕ × List Bool) = λ v. Some (v, drop n bs) in
     let G : List Bool → Option (ℕ × List Bool) = λ l. Some (bit_or (v * 2 ^ 32 % 2 ^ 64) w, l) in
     enough n bs fits ∙ ap F number ∙ ap G left

@@ -44,4 +44,3 @@ tables-three a b c o x y z none p q r =
 
 pub tables-two : (a b : List model.Field) (x y : List Bool) → x ≡ fields_bits a → y ≡ x ++ fields_bits b → y ≡ fields_bits (a ++ b)
 tables-two a b x y p q = q ∙ ap (λ l. l ++ fields_bits b) p ∙ sym (fields_bits-append a b)
-

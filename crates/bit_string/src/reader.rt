@@ -107,11 +107,11 @@ impl<'a> BitReader<'a> {
         8 * self.index as u64 + u64::from(self.bit)
     }
 
-    /// How many whole bytes were read.
-    pub fn bytes_read(&self) -> usize
-        ensures { result ≡ self.now.place / 8 }
+    /// How many whole bytes are left.
+    pub fn bytes_left(&self) -> usize
+        ensures { result ≡ length self.now.left / 8 }
     {
-        self.index
+        self.bytes.len() - self.index - self.bit.div_ceil(8) as usize
     }
 
     fn twin(&self) -> BitReader<'a>

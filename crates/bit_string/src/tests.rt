@@ -41,7 +41,7 @@ fn reads(rt: HostRuntime) -> Result<(), Fail> {
     assert_eq!(rt; left.se(), Some(-1));
     assert_eq!(rt; left.bits(32), Some(0x0010_2FFF));
     assert_eq!(rt; left.place(), 58);
-    assert_eq!(rt; left.bytes_read(), 7);
+    assert_eq!(rt; left.bytes_left(), 0);
     assert_eq!(rt; left.align_one(), Some(()));
     assert_eq!(rt; left.bits(1), None);
     assert_eq!(rt; left.align_one(), None);

@@ -177,5 +177,12 @@ fn read_no_offset(from: &mut BitReader, number: u32) -> Result<(), u32>
         (λ field. read_fields (golomb number 0 ∷ []) from.old.left ≡ Err field) }
 {
     let coding = Descriptor::Ue;
-    read_fields(from, &[Field { number, coding, value: 0 }])
+    read_fields(
+        from,
+        &[Field {
+            number,
+            coding,
+            value: 0,
+        }],
+    )
 }

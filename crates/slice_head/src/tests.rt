@@ -1,5 +1,5 @@
 //! Headers of pictures, as an independent model of the format writes them.
-use crate::{Head, write_head};
+use crate::{Head, HeadError, read_head, write_head};
 use h265_model::Numbers;
 use std::test::Fail;
 
@@ -29,6 +29,48 @@ fn writes_heads(rt: HostRuntime) -> Result<(), Fail> {
         let offsets = Numbers::from_vec(offsets.to_vec(rt.alloc())?);
         let out = write_head(rt.alloc(), &Head { idr, poc, offsets })?;
         assert_eq!(rt; out.as_slice(), want);
+    }
+    Ok(())
+}
+
+#[test]
+fn reads_heads(rt: HostRuntime) -> Result<(), Fail> {
+    for (idr, poc, offsets, bytes) in HEADS {
+        assert!(rt; offsets.len() < 9);
+        let (head, length) = read_head(rt.alloc(), bytes, idr, offsets.len() as u32 + 1)?;
+        assert_eq!(rt; head.idr, idr);
+        assert_eq!(rt; head.poc, poc);
+        assert_eq!(rt; head.offsets.as_slice(), offsets);
+        assert_eq!(rt; length, bytes.len() as u64);
+    }
+    Ok(())
+}
+
+// A header of a P slice of one row and of an IDR slice of two rows with one bit changed, and the field that differs
+const DIFFERENT: [(bool, u32, &[u8], u32); 13] = [
+    (false, 1, &[0x50, 0x0C, 0x5E], 1),
+    (false, 1, &[0x90, 0x0C, 0x5E], 3),
+    (false, 1, &[0xF0, 0x0C, 0x5E], 4),
+    (false, 1, &[0xD0], 5),
+    (false, 1, &[0xD0, 0x08, 0x5E], 6),
+    (false, 1, &[0xD0, 0x0E, 0x5E], 7),
+    (false, 1, &[0xD0, 0x0C, 0x4E], 8),
+    (false, 1, &[0xD0, 0x0C, 0x56], 9),
+    (false, 2, &[0xD0, 0x0C, 0x5E], 10),
+    (false, 1, &[0xD0, 0x0C, 0x5F], 13),
+    (true, 1, &[0xEF, 0x80], 2),
+    (true, 2, &[0xAE, 0x83, 0, 0, 1, 0x20, 0x1C], 11),
+    (true, 2, &[0xAE, 0x81, 0, 0, 1, 0x20], 12),
+];
+
+#[test]
+fn names_fields(rt: HostRuntime) -> Result<(), Fail> {
+    for (idr, rows, bytes, want) in DIFFERENT {
+        assert!(rt; rows > 0);
+        match read_head(rt.alloc(), bytes, idr, rows) {
+            Err(HeadError::BadHead { field }) => assert_eq!(rt; field, want),
+            _ => assert!(rt; false, "it was read"),
+        }
     }
     Ok(())
 }

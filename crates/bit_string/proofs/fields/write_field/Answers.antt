@@ -14,5 +14,5 @@ returns-then-width-gt32 c =
     let last = c.put-then-width-gt32 in
     let coding = ap (λ d. element_bits (descriptor_of d) v) c.in-U.is in
     let whole = λ (is : last.new.self ≡ c.put.new.self ++ u 32 v).
-      is ∙ ap (λ l. l ++ u 32 v) c.in_ok-put-in-U.ensures.ok ∙ append_assoc old (u (n - 32) 0) (u 32 v) ∙ ap (λ l. old ++ l) (u-long n v (omega arith) (omega arith) ∙ sym coding) in
+    is ∙ ap (λ l. l ++ u 32 v) c.in_ok-put-in-U.ensures.ok ∙ append_assoc old (u (n - 32) 0) (u 32 v) ∙ ap (λ l. old ++ l) (u-long n v (omega arith) (omega arith) ∙ sym coding) in
     on_ok_weaker last.result whole last.ensures.ok

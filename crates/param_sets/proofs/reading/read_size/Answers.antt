@@ -35,7 +35,7 @@ returns-in-Some-eq0 c =
     let h = c.in_ok-h.h in
     let v = c.in-Some-eq0.field-0 in
     let is = flag_unset x w c.read_side.new.from.left h z.left v t.left c.in_ok-w.ensures.read c.in_ok-h.ensures.read
-      (read_some (read_u 1 z.left) v z t c.in-Some-eq0.ensures.value c.in-Some-eq0.ensures.after) c.in-Some-eq0.field-0-test in
+    (read_some (read_u 1 z.left) v z t c.in-Some-eq0.ensures.value c.in-Some-eq0.ensures.after) c.in-Some-eq0.field-0-test in
     let P : Result (Size × List Bool) ℕ → Type 0 = Reads (ok_or c.new.result 10) t.left in
     let Q : Result Size ℕ → Type 0 = λ r. Reads r t.left (read_size x) in
     subst Q (sym c.ok_or.ensures.value) (subst P (sym is) (whole_read w h t.left c.new.result (side_is w c.in_ok-w.ensures.coded) (side_is h c.in_ok-h.ensures.coded) c.new.ensures))
@@ -49,6 +49,6 @@ returns-in-Some c =
     let h = c.in_ok-h.h in
     let v = c.in-Some.field-0 in
     let is = flag_set x w c.read_side.new.from.left h z.left v t.left c.in_ok-w.ensures.read c.in_ok-h.ensures.read
-      (read_some (read_u 1 z.left) v z t c.in-Some.ensures.value c.in-Some.ensures.after) c.in-Some.field-0-test.1 in
+    (read_some (read_u 1 z.left) v z t c.in-Some.ensures.value c.in-Some.ensures.after) c.in-Some.field-0-test.1 in
     let P : Result (Size × List Bool) ℕ → Type 0 = Reads c.read_window.result c.read_window.new.from.left in
     subst P (sym is) c.read_window.ensures
