@@ -1,6 +1,6 @@
 -- Blocks that are compared position by position, in rows.
 use Rattle.std.proofs.Common.{◌≡◌, sym, ◌∙◌, ap, ℕ, zero, suc, ◌+◌, ◌*◌, ◌/◌, ◌%◌, ◌<◌, ◌≤◌, Bool, true, false, List, [], ◌∷◌, length, get_or, map, inl, inr, arith, mod-lt}
-use Rattle.std.specs.Prelude.{◌&&◌, eqb}
+use Rattle.std.specs.Prelude.{eqb}
 use Rattle.std.proofs.lemmas.Bool.{and_parts, and_from, eqb-true, eq-eqb, cases_order, cases_lt, false≢true}
 use Rattle.std.proofs.lemmas.Nat.{div-add-mod', div_below, mul-le}
 use Rattle.std.proofs.lemmas.List.FromFn.{get_or-map-range_with_len}

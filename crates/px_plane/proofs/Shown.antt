@@ -1,11 +1,11 @@
 -- What a picture shows, and the samples that it stores.
-use Rattle.std.proofs.Common.{◌≡◌, refl, sym, ◌∙◌, ap, ℕ, zero, suc, ◌+◌, ◌*◌, ◌<◌, ◌≤◌, Bool, true, false, List, [], ◌∷◌, length, get_or, cond, replicate, arith}
-use Rattle.std.specs.Prelude.{◌&&◌, nat_lt, IsTrue, fold}
+use Rattle.std.proofs.Common.{◌≡◌, refl, sym, ◌∙◌, ap, ℕ, zero, suc, ◌+◌, ◌*◌, ◌<◌, ◌≤◌, Bool, true, false, List, [], get_or, cond, replicate, arith}
+use Rattle.std.specs.Prelude.{◌&&◌, nat_lt, IsTrue}
 use Rattle.std.proofs.lemmas.Bool.{ltb-true, lt-ltb, and_parts, and_from, both_ways, cond-true, cond-false}
 use Rattle.std.proofs.lemmas.Bool.Decides.{nat_tests}
-use Rattle.std.proofs.lemmas.List.{get_or-replicate, length-replicate}
+use Rattle.std.proofs.lemmas.List.{length-replicate}
 use Rattle.h265_model.specs.Plain.{Size, Picture, coded, place_values}
-use Rattle.h265_model.specs.Words.{is_size, most_area}
+use Rattle.h265_model.specs.Words.{is_size}
 use Rattle.h265_model.specs.Lines.{black as unpainted}
 use Rattle.h265_model.specs.declared.line.Line.{Line}
 use Rattle.h265_model.specs.Raster.{Raster, colour, raster, component, coded_picture, plane, planes, stored_picture}

@@ -1,6 +1,6 @@
 -- Tiles: where they lie, which sample stands where, and what a job leaves.
 use Rattle.std.proofs.Common.{◌≡◌, refl, sym, ◌∙◌, ap, ℕ, zero, suc, ◌+◌, ◌*◌, ◌-◌, ◌/◌, ◌%◌, ◌<◌, ◌≤◌, Bool, true, false, cond, eqb, min, List, [], ◌∷◌, ◌++◌, length, take, drop, get_or, length-append, get_or-append-add, inl, inr, ◌⊎◌, arith, mod-lt, le_refl}
-use Rattle.std.specs.List.{flat_map, Contains}
+use Rattle.std.specs.List.{flat_map}
 use Rattle.std.proofs.lemmas.List.{get_or_append_left, get_or_default, get_or-take, get_or-drop}
 use Rattle.std.proofs.lemmas.List.FromFn.{get_or-range_with_len}
 use Rattle.std.proofs.lemmas.Bool.{eqb-true, eqb-false, eq-eqb, ne_eqb, cases_eq}
@@ -12,8 +12,8 @@ use Rattle.h265_model.specs.Raster.{Raster, coded_picture}
 use Rattle.h265_model.specs.Desk.{tile_count, tile_samples, job_for}
 use Rattle.px_plane.specs.declared.plane.Sides.{Sides}
 use Rattle.px_plane.specs.Planes.{Planes, picture_of, IsPicture, Stores, Shows}
-use Rattle.px_plane.specs.Rows.{IsPutInto, IsWithin, is_in, sample_at}
-use Rattle.px_plane.specs.Tiles.{tile_of, in_tile, laid_first, laid, IsJobOf, DiffersOnlyIn, IsTilePart, IsTileLaid}
+use Rattle.px_plane.specs.Rows.{IsPutInto, is_in, sample_at}
+use Rattle.px_plane.specs.Tiles.{tile_of, in_tile, laid_first, laid, DiffersOnlyIn, IsTilePart, IsTileLaid}
 use Rattle.px_plane.proofs.Places.{length_places, at_places}
 use Rattle.px_plane.proofs.Shown.{planes_from_stores}
 

@@ -3,7 +3,6 @@ use Rattle.std.specs.Prelude.{◌≡◌, ◌<◌, ◌≤◌, length, ℕ, ◌+�
 use Rattle.h265_model.specs.Plain.{Picture, place_values}
 use Rattle.h265_model.specs.declared.line.Rect.{Rect}
 use Rattle.px_plane.specs.declared.compare.RowPart.{RowPart}
-use Rattle.px_plane.specs.Planes.{Planes, picture_of}
 
 -- two pictures have the same three samples at a place
 abbrev pub same_at : Picture → Picture → ℕ → ℕ → Bool

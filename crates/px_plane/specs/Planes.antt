@@ -1,5 +1,5 @@
 -- A picture as it is stored, and what painting makes of it.
-use Rattle.std.specs.Prelude.{◌≡◌, ◌<◌, ◌≤◌, length, ℕ, zero, suc, ◌+◌, ◌*◌, ◌-◌, Bool, ◌&&◌, List, [], ◌∷◌, nat_lt, slice_index, slice_index_or, replicate, IsTrue, min, if◌then◌else◌}
+use Rattle.std.specs.Prelude.{◌≡◌, ◌<◌, length, ℕ, zero, suc, ◌+◌, ◌*◌, ◌-◌, Bool, ◌&&◌, List, [], ◌∷◌, nat_lt, slice_index, slice_index_or, replicate, IsTrue, min, if◌then◌else◌}
 use Rattle.h265_model.specs.Plain.{Size, Picture, coded}
 use Rattle.h265_model.specs.Words.{is_size}
 use Rattle.h265_model.specs.Lines as lines

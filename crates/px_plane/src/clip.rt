@@ -3,16 +3,23 @@ ghost use Rattle.std.specs.Prelude.{◌≡◌, ℕ, IfSome, IsNone, false};
 ghost use Rattle.std.specs.Option.{SomeIff};
 ghost use Rattle.px_plane.specs.Planes.{IsInside, clipped, covers};
 ghost use Rattle.h265_model.specs.Raster.{paints};
+ghost use Rattle.h265_model.specs.declared.line.Rect.{Rect};
 
 use crate::{Rect, Size};
 
 /// What can be clipped to a desktop.
 pub trait Clip {
-    /// The part that lies in a desktop of this size, or `None` where nothing does.
-    fn clip(self, size: Size) -> Option<Rect>;
+    /// The rectangle that it has.
+    ghost rectangle: { Self → Rect };
+
+    /// The part of its rectangle that lies in a desktop of this size, or `None` exactly where nothing does.
+    fn clip(self, size: Size) -> Option<Rect>
+        ensures { SomeIff result (IsInside size (rectangle self)) (clipped size (rectangle self)) };
 }
 
 impl Clip for Rect {
+    ghost rectangle = { λ r. r };
+
     /// `None` exactly where nothing of the rectangle lies in the desktop; a side of 0 gives `None`.
     fn clip(self, size: Size) -> Option<Rect>
         ensures value { SomeIff result (IsInside size self) (clipped size self) }

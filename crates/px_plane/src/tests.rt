@@ -138,9 +138,10 @@ fn paints_as_the_model(rt: HostRuntime) -> Result<(), Fail> {
         (2, 9, [0, 0, 0, 0, 0, 0, 0, 0, 0, 0, 0, 0, 0, 0, 0, 0]),
     ] {
         assert!(rt; component < 3 && y < 16);
+        let expected: &[u8] = &row;
         assert_eq!(rt;
             twin.row(component, 0, y, 16),
-            &row[..],
+            expected,
             "component {component}, row {y}"
         );
         assert_eq!(rt;

@@ -1,4 +1,4 @@
-use Rattle.std.proofs.Common.{◌≡◌, ◌+◌, ◌*◌, ◌-◌, ◌<◌, ◌≤◌, length, arith, rules, get_or, take, drop, ap, refl, ◌∙◌, ℕ, List}
+use Rattle.std.proofs.Common.{◌≡◌, ◌+◌, ◌*◌, ◌-◌, ◌≤◌, length, arith, rules, get_or, take, drop, ap, refl, ◌∙◌, ℕ, List}
 use Rattle.std.proofs.lemmas.List.{places, get_or-take, get_or-drop}
 use Rattle.std.proofs.lemmas.Nat.{mul-le}
 use Rattle.h265_model.specs.Lines.{black}

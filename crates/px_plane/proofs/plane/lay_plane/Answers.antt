@@ -1,4 +1,4 @@
-use Rattle.std.proofs.Common.{◌≡◌, ◌+◌, ◌*◌, ◌-◌, ◌<◌, ◌≤◌, length, arith, rules, get_or, take, drop, ap, ◌∙◌, ℕ}
+use Rattle.std.proofs.Common.{◌≡◌, ◌+◌, ◌*◌, ◌-◌, ◌≤◌, length, arith, rules, get_or, take, drop, ap, ◌∙◌, ℕ}
 use Rattle.std.proofs.lemmas.List.{places, get_or-take, get_or-drop}
 use Rattle.px_plane.specs.Rows.{sample_at}
 use Rattle.px_plane.proofs.Rows.{row_put, row_ends}

@@ -1,8 +1,8 @@
-use Rattle.std.proofs.Common.{◌≡◌, ◌+◌, ◌-◌, ◌<◌, ◌≤◌, ℕ, arith, refl}
+use Rattle.std.proofs.Common.{◌+◌, ◌-◌, ℕ, arith, refl}
 use Rattle.std.proofs.lemmas.Bool.{false≢true}
 use Rattle.h265_model.specs.Plain.{Picture}
 use Rattle.px_plane.specs.Planes.{picture_of}
-use Rattle.px_plane.proofs.Blocks.{AreRowsSame, IsRowCompared, row_compared, rows_same_none, rows_same_more, counted_to_first, counted_to_end, block_differs, block_same, counted_at_most}
+use Rattle.px_plane.proofs.Blocks.{IsRowCompared, row_compared, rows_same_more, counted_to_first, counted_to_end, block_differs, block_same, counted_at_most}
 use Rattle.px_plane.proofs.picture.Picture.block_equal.Goals as goal
 
 pub loop-y-preserved : goal.loop-y-preserved

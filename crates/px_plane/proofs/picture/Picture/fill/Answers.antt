@@ -1,5 +1,5 @@
 use Rattle.std.proofs.Common.{rules}
-use Rattle.px_plane.proofs.Painted.{part_painted, nothing_painted, fill_shows}
+use Rattle.px_plane.proofs.Painted.{part_painted, fill_shows}
 use Rattle.px_plane.proofs.picture.Picture.fill.Goals as goal
 
 pub returns-in-Some-clause-painted : goal.returns-in-Some-clause-painted

@@ -1,4 +1,4 @@
-use Rattle.std.proofs.Common.{◌+◌, ℕ}
+use Rattle.std.proofs.Common.{◌+◌}
 use Rattle.px_plane.specs.Planes.{picture_of}
 use Rattle.px_plane.proofs.Blocks.{row_reads}
 use Rattle.px_plane.proofs.picture.Picture.row_part.Goals as goal
