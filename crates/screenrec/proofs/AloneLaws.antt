@@ -50,7 +50,7 @@ pub report_is : (script : List Line) (written : ℕ) →
     report_text (count_by is_cut script) (length script - count_by is_cut script) written ≡ report_of (script ∷ []) (own_order (script ∷ [])) written
 report_is script written =
     let paints_are : length script - count_by is_cut script ≡ paints (script ∷ []) (own_order (script ∷ [])) =
-        omega (arith, count_both is_cut script, paints-own_order script) in
+    omega (arith, count_both is_cut script, paints-own_order script) in
     let cuts_are : count_by is_cut script ≡ cuts (script ∷ []) (own_order (script ∷ [])) = sym (cuts-own_order script) in
     ap (λ (n : ℕ). report_text n (length script - count_by is_cut script) written) cuts_are
     ∙ ap (λ (n : ℕ). report_text (cuts (script ∷ []) (own_order (script ∷ []))) n written) paints_are

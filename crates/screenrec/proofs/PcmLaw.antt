@@ -143,7 +143,7 @@ pcm_piece-shown p n before now sized shows =
     let b : p.b ≡ plane one_ctu (coded_picture one_ctu now) 1 = cc in
     let r : p.r ≡ plane one_ctu (coded_picture one_ctu now) 2 = cc in
     let same : nal_unit_bytes (pcm_unit p.g p.b p.r)
-        ≡ nal_unit_bytes (pcm_unit (plane one_ctu (coded_picture one_ctu now) 0) (plane one_ctu (coded_picture one_ctu now) 1) (plane one_ctu (coded_picture one_ctu now) 2)) = cc in
+    ≡ nal_unit_bytes (pcm_unit (plane one_ctu (coded_picture one_ctu now) 0) (plane one_ctu (coded_picture one_ctu now) 1) (plane one_ctu (coded_picture one_ctu now) 2)) = cc in
     same ∙ sym (pcm_piece n before now)
 
 pub pcm_unit-short : (g b r : List ℕ) → length (pcm_payload g b r) ≡ 3078 → length (nal_unit_bytes (pcm_unit g b r)) ≤ 8192

@@ -67,7 +67,7 @@ pub shows_cut : (p : Planes) (done : List Line) → ShowsLines p done → ShowsL
 unfolding raster colour
 shows_cut p done h =
     let same : raster p.size (done ++ Cut ∷ []) ≡ raster p.size done =
-        same_places p.size.w p.size.h (λ x y. fold (repainted x y) black (done ++ Cut ∷ [])) (λ x y. fold (repainted x y) black done) (λ x y a b. fold-last x y black done) in
+    same_places p.size.w p.size.h (λ x y. fold (repainted x y) black (done ++ Cut ∷ [])) (λ x y. fold (repainted x y) black done) (λ x y a b. fold-last x y black done) in
     subst (λ (r : Raster). Shows p r) (sym same) h
 
 -- ---- what is told
@@ -153,11 +153,11 @@ stopped_short name lines k written line start after more counted s =
     let front = pieces_of_front built lines (k + 1) in
     let so_far : List (List ℕ) = pieces_after_lines (take k lines) in
     let all : pieces_after_lines lines ≡ so_far ++ s.piece ∷ front.0 =
-        front.1 ∙ ap (λ (l : List (List ℕ)). l ++ front.0) (ap pieces_after_lines more ∙ s.next) ∙ append_assoc so_far (s.piece ∷ []) front.0 in
+    front.1 ∙ ap (λ (l : List (List ℕ)). l ++ front.0) (ap pieces_after_lines more ∙ s.next) ∙ append_assoc so_far (s.piece ∷ []) front.0 in
     let here : slice_index_or (pieces_after_lines lines) (length so_far) [] ≡ s.piece =
-        ap (λ (l : List (List ℕ)). slice_index_or l (length so_far) []) all ∙ get_or_at so_far s.piece front.0 [] (length so_far) refl in
+    ap (λ (l : List (List ℕ)). slice_index_or l (length so_far) []) all ∙ get_or_at so_far s.piece front.0 [] (length so_far) refl in
     let taken : take (length so_far) (pieces_after_lines lines) ≡ so_far =
-        ap (take (length so_far)) all ∙ take_front so_far (s.piece ∷ front.0) in
+    ap (take (length so_far)) all ∙ take_front so_far (s.piece ∷ front.0) in
     record {
       whole = length so_far;
       part = s.part;

@@ -4,7 +4,6 @@ use Rattle.h265_model.specs.Files.{Rose}
 use Rattle.screenrec.specs.declared.outcome.Status.{Status}
 use Rattle.screenrec.specs.declared.outcome.Status.TheVariants as status
 
-
 -- the counts of faults of a shelf and of a report, before a call and after it
 pub record Counts : Type 0 where
   pub reads : ℕ

@@ -14,13 +14,12 @@ mod stream_file;
 
 pub use complaint::Complaint;
 pub use demo::run_demo;
+use edges::{DiskShelf, NoGate, StreamSink};
+use h265_model::NoMemory;
 pub use h265_model::{Cause, LimitKind};
 pub use outcome::{Form, Outcome, Status};
 pub use recording::run;
 pub use serial::run_serial;
-
-use edges::{DiskShelf, NoGate, StreamSink};
-use h265_model::NoMemory;
 use std::alloc::Global;
 use std::env;
 use std::process::ExitCode;
@@ -75,3 +74,6 @@ fn finish<R: Eprint>(rt: &R, status: Status) -> ExitCode {
     }
     ExitCode::from(status.number())
 }
+
+#[cfg(test)]
+mod tests;
