@@ -44,7 +44,7 @@ profile_tier_level n =
     fixed n 1 0 ∷
     -- general_lower_bit_rate_constraint_flag
     fixed n 1 1 ∷
-    -- general_reserved_zero_34bits and general_reserved_zero_bit
+    -- general_reserved_zero_34bits and general_inbld_flag
     fixed n 35 0 ∷
     -- general_level_idc: level 5.2
     fixed n 8 156 ∷ []

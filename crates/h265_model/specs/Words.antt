@@ -99,13 +99,3 @@ row_of (command ∷ words) =
     else if bytes_eq command (codes "demo") then demo_words words
     else if bytes_eq command (codes "decode") then decode_words words
     else None
-
--- the rows that each call serves
-abbrev pub serial_row : List (List ℕ) → Option SerialWords
-serial_row words = elim (row_of words) [ Some (Serial s) ↦ Some s | _ ↦ None ]
-
-abbrev pub record_row : List (List ℕ) → Option RecordWords
-record_row words = elim (row_of words) [ Some (Record r) ↦ Some r | _ ↦ None ]
-
-abbrev pub demo_row : List (List ℕ) → Option ℕ
-demo_row words = elim (row_of words) [ Some (Demo number) ↦ Some number | _ ↦ None ]

@@ -53,7 +53,7 @@ macro_rules! around_profile_tier_level {
             u!($number, 1, 0),
             // general_lower_bit_rate_constraint_flag
             u!($number, 1, 1),
-            // general_reserved_zero_34bits and general_reserved_zero_bit
+            // general_reserved_zero_34bits and general_inbld_flag
             u!($number, 35, 0),
             // general_level_idc: level 5.2
             u!($number, 8, 156),

@@ -12,7 +12,6 @@ use Rattle.h265_model.specs.Plain.{joined}
 use Rattle.h265_model.specs.Raster.{Raster, IsColour, HasColours, pictures, rasters_after}
 use Rattle.h265_model.specs.Stream.{pieces, stream_of}
 use Rattle.h265_model.specs.Decode.{decode}
-use Rattle.h265_model.specs.Turn.{StartsWith}
 use Rattle.h265_model.specs.Script.{is_cut}
 use Rattle.h265_model.specs.Report.{report_text}
 use Rattle.h265_model.specs.Histories.{own_order, cuts, paints, IsLawful}
@@ -25,12 +24,12 @@ use Rattle.h265_laws.proofs.PlayLaws.{cuts-own_order, paints-own_order, pictures
 use Rattle.h265_laws.proofs.StreamLaw.{each_stream_is_decoded}
 use Rattle.paint_script.specs.Spellable.{IsSpellable, AreSpellable, IsSpellableColour}
 use Rattle.screenrec.specs.Built.{built, one_ctu}
-use Rattle.screenrec.specs.Stored.{IsStored}
+use Rattle.screenrec.specs.Stored.{IsStored, EndsIn}
 use Rattle.screenrec.specs.Recording.{Alone, IsPlayedOut, IsPlayedInPart, scripts_in, IsFinished, IsBroken}
 use Rattle.screenrec.specs.declared.outcome.Status.{Status}
 use Rattle.screenrec.specs.declared.outcome.Status.TheVariants as status
 use Rattle.screenrec.specs.Alone.{ReportsScript, alone_task, sink_status, IsOfReport, LeavesScript}
-use Rattle.screenrec.proofs.StoredLaws.{told_as}
+use Rattle.screenrec.proofs.StoredLaws.{told_as, holds}
 
 -- ---- the report
 
@@ -142,15 +141,15 @@ broken out script order before after written file Played own played s accepted =
   cut_short = cut_short_of out script order before after written own s;
 }
 
-in_part : (script : List Line) (order : List Entry) → order ≡ own_order (script ∷ []) → StartsWith (own_order (script ∷ [])) order
-in_part script order own = ([], sym own ∙ sym (append-nil order))
-
 leaves_whole : (out : List ℕ) (script : List Line) (order : List Entry) (written : ℕ) (answer : Status) (x y : Files) → IsOfReport answer → AreSpellable script →
     order ≡ own_order (script ∷ []) → IsStored out script x y written → LeavesScript out script x y order written answer
 leaves_whole out script order written status.Ok x y kind spelled own s = λ file accepted. finished out script order x y written file spelled own s accepted
 leaves_whole out script order written status.ReportFault x y kind spelled own s = λ file accepted. finished out script order x y written file spelled own s accepted
 leaves_whole out script order written status.NoMemory x y kind spelled own s = λ file accepted.
-    inr (broken out script order x y written file (IsPlayedInPart Alone) own (in_part script order own) (whole_cut out script x y written s) accepted)
+    inr (
+      broken out script order x y written file (IsPlayedInPart Alone) own own (whole_cut out script x y written s) accepted,
+      s.counted ∙ holds x y out (stream_of built (rasters_after one_ctu [] script)) s.stored,
+    )
 leaves_whole out script order written status.Usage x y kind spelled own s = absurd kind
 leaves_whole out script order written (status.BadPaint f l c) x y kind spelled own s = absurd kind
 leaves_whole out script order written (status.Limit w) x y kind spelled own s = absurd kind
@@ -168,16 +167,16 @@ whole_files a b out script order written answer kind spelled own told =
     (λ x y s. leaves_whole out script order written answer x y kind spelled own s)
 
 leaves_stopped : (out : List ℕ) (script : List Line) (order : List Entry) (written : ℕ) (error : WriteError) (x y : Files) → order ≡ own_order (script ∷ []) →
-    IsCutShort built out (rasters_after one_ctu [] script) x y written → LeavesScript out script x y order written (sink_status error)
+    EndsIn out script x y (Err error) written → LeavesScript out script x y order written (sink_status error)
 leaves_stopped out script order written write.Failed x y own s = λ file accepted.
     inr (broken out script order x y written file (IsPlayedOut Alone) own own s accepted)
 leaves_stopped out script order written write.NoMemory x y own s = λ file accepted.
-    inr (broken out script order x y written file (IsPlayedInPart Alone) own (in_part script order own) s accepted)
+    inr (broken out script order x y written file (IsPlayedInPart Alone) own own s.0 accepted, s.1)
 
 pub stopped_files : (a b : Option Files) (out : List ℕ) (script : List Line) (order : List Entry) (written : ℕ) (error : WriteError) →
-    order ≡ own_order (script ∷ []) → WhereTold a b (λ before after. IsCutShort built out (rasters_after one_ctu [] script) before after written) →
+    order ≡ own_order (script ∷ []) → WhereTold a b (λ before after. EndsIn out script before after (Err error) written) →
     WhereTold a b (λ before after. LeavesScript out script before after order written (sink_status error))
 stopped_files a b out script order written error own told =
-    told_as a b (λ before after. IsCutShort built out (rasters_after one_ctu [] script) before after written)
+    told_as a b (λ before after. EndsIn out script before after (Err error) written)
     (λ before after. LeavesScript out script before after order written (sink_status error)) told
     (λ x y s. leaves_stopped out script order written error x y own s)

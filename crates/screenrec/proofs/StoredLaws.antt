@@ -94,13 +94,7 @@ cut_continues name done start x y (Err write.Failed) p q = record {
   is_part = q.1;
   stored = grown start x y name (stream_after done) q.0 p q.2;
 }
-cut_continues name done start x y (Err write.NoMemory) p q = record {
-  piece = cut_piece done;
-  part = [];
-  next = cut_adds done;
-  is_part = (cut_piece done, refl);
-  stored = q ∙ p ∙ ap (insert start name) (sym (append-nil (stream_after done)));
-}
+cut_continues name done start x y (Err write.NoMemory) p q = q ∙ p
 
 -- ---- the clauses of one line
 
@@ -166,17 +160,44 @@ stopped_short name lines k written line start after more counted s =
       counted = counted ∙ ap (λ (l : List (List ℕ)). length (joined l)) (sym taken);
     }
 
-pub told_stopped : (a b c : Option Files) (name : List ℕ) (lines : List Line) (k written : ℕ) (line : Line) →
+-- the stream so far is whole pieces of that of all lines, and nothing of the next one
+so_far_cut : (name : List ℕ) (lines : List Line) (k written : ℕ) (start after : Files) → written ≡ length (stream_after (take k lines)) →
+    after ≡ insert start name (stream_after (take k lines)) → IsCutShort built name (rasters_after one_ctu [] lines) start after written
+so_far_cut name lines k written start after counted stored =
+    let front = pieces_of_front built lines k in
+    let so_far : List (List ℕ) = pieces_after_lines (take k lines) in
+    let taken : take (length so_far) (pieces_after_lines lines) ≡ so_far = ap (take (length so_far)) front.1 ∙ take_front so_far front.0 in
+    record {
+      whole = length so_far;
+      part = [];
+      is_part = (slice_index_or (pieces_after_lines lines) (length so_far) [], refl);
+      stored = stored ∙ ap (λ (l : List (List ℕ)). insert start name (joined l)) (sym taken)
+          ∙ ap (insert start name) (sym (append-nil (joined (take (length so_far) (pieces_after_lines lines)))));
+      counted = counted ∙ ap (λ (l : List (List ℕ)). length (joined l)) (sym taken);
+    }
+
+-- a file that holds these bytes
+pub holds : (start after : Files) (name bytes : List ℕ) → after ≡ insert start name bytes → length bytes ≡ length (file_at after name)
+holds start after name bytes e = ap length (sym (ap (λ (m : Files). file_at m name) e ∙ file_at-insert start name bytes))
+
+stopped_ends : (name : List ℕ) (lines : List Line) (k written : ℕ) (line : Line) (error : WriteError) (start after : Files) →
+    take (k + 1) lines ≡ take k lines ++ line ∷ [] → written ≡ length (stream_after (take k lines)) →
+    Continues name (take k lines) line start after (Err error) → EndsIn name lines start after (Err error) written
+stopped_ends name lines k written line write.Failed start after more counted s = stopped_short name lines k written line start after more counted s
+stopped_ends name lines k written line write.NoMemory start after more counted s =
+    (so_far_cut name lines k written start after counted s, counted ∙ holds start after name (stream_after (take k lines)) s)
+
+pub told_stopped : (a b c : Option Files) (name : List ℕ) (lines : List Line) (k written : ℕ) (line : Line) (error : WriteError) →
     take (k + 1) lines ≡ take k lines ++ line ∷ [] → written ≡ length (stream_after (take k lines)) →
     WhereTold a b (GoesFrom name [] (take k lines)) →
-    WhereTold b c (λ before after. (start : Files) → before ≡ insert start name (stream_after (take k lines)) → IsStopped name (take k lines) line start after) →
-    WhereTold a c (λ before after. (start : Files) → before ≡ insert start name (stream_after []) → IsCutShort built name (rasters_after one_ctu [] lines) start after written)
-told_stopped a b c name lines k written line more counted first second =
+    WhereTold b c (λ before after. (start : Files) → before ≡ insert start name (stream_after (take k lines)) → Continues name (take k lines) line start after (Err error)) →
+    WhereTold a c (λ before after. (start : Files) → before ≡ insert start name (stream_after []) → EndsIn name lines start after (Err error) written)
+told_stopped a b c name lines k written line error more counted first second =
     told_on a b c (GoesFrom name [] (take k lines))
-    (λ before after. (start : Files) → before ≡ insert start name (stream_after (take k lines)) → IsStopped name (take k lines) line start after)
-    (λ before after. (start : Files) → before ≡ insert start name (stream_after []) → IsCutShort built name (rasters_after one_ctu [] lines) start after written)
+    (λ before after. (start : Files) → before ≡ insert start name (stream_after (take k lines)) → Continues name (take k lines) line start after (Err error))
+    (λ before after. (start : Files) → before ≡ insert start name (stream_after []) → EndsIn name lines start after (Err error) written)
     first second
-    (λ x y z p q start e. stopped_short name lines k written line start z more counted (q start (p start e)))
+    (λ x y z p q start e. stopped_ends name lines k written line error start z more counted (q start (p start e)))
 
 -- ---- the first piece
 
@@ -198,19 +219,29 @@ first_stopped name lines start x y part front p q =
       counted = refl;
     }
 
+first_ends : (name first : List ℕ) (lines : List Line) (error : WriteError) (x y start : Files) → first ≡ stream_after [] →
+    AppendsTo name first x y (Err error) → x ≡ insert start name [] → EndsIn name lines start y (Err error) 0
+first_ends name first lines write.Failed x y start is p e = first_stopped name lines start x y p.0 (p.1.0, sym is ∙ p.1.1) e p.2
+first_ends name first lines write.NoMemory x y start is p e =
+    let made : y ≡ insert start name [] = p ∙ e in
+    let all = pieces_of_front built lines 0 in (
+      record {
+        whole = 0;
+        part = [];
+        is_part = (slice_index_or (pieces_after_lines lines) 0 [], refl);
+        stored = made;
+        counted = refl;
+      },
+      holds start y name [] made,
+    )
+
 pub first_told : (a b : Option Files) (name first : List ℕ) (lines : List Line) (error : WriteError) → first ≡ stream_after [] →
     WhereTold a b (λ before after. AppendsTo name first before after (Err error)) →
-    WhereTold a b (λ before after. (start : Files) → before ≡ insert start name [] → IsCutShort built name (rasters_after one_ctu [] lines) start after 0)
+    WhereTold a b (λ before after. (start : Files) → before ≡ insert start name [] → EndsIn name lines start after (Err error) 0)
 first_told a b name first lines error is told =
     told_as a b (λ before after. AppendsTo name first before after (Err error))
-    (λ before after. (start : Files) → before ≡ insert start name [] → IsCutShort built name (rasters_after one_ctu [] lines) start after 0) told
-    (go error)
-  where
-    go : (error : WriteError) (x y : Files) → AppendsTo name first x y (Err error) → (start : Files) → x ≡ insert start name [] → IsCutShort built name (rasters_after one_ctu [] lines) start y 0
-    go write.Failed x y p start e = first_stopped name lines start x y p.0 (p.1.0, sym is ∙ p.1.1) e p.2
-    go write.NoMemory x y p start e =
-        first_stopped name lines start x y [] (stream_after [], refl) e
-        (p ∙ e ∙ sym (insert_again start name [] []) ∙ ap (λ (m : Files). insert m name []) (sym e) ∙ ap (λ (l : List ℕ). insert x name l) (sym (ap (λ (m : Files). file_at m name) e ∙ file_at-insert start name []) ∙ sym (append-nil (file_at x name))))
+    (λ before after. (start : Files) → before ≡ insert start name [] → EndsIn name lines start after (Err error) 0) told
+    (λ x y p start e. first_ends name first lines error x y start is p e)
 
 -- the first piece stands in the file
 pub first_stands : (a b : Option Files) (name first : List ℕ) → first ≡ stream_after [] →

@@ -1,5 +1,5 @@
 -- Which scripts are accepted, and by which status a call refuses them.
-use Rattle.std.specs.Prelude.{◌≡◌, ◌≤◌, ℕ, List, [], ◌∷◌, length, Result, Ok, Err, IsOk}
+use Rattle.std.specs.Prelude.{◌≡◌, ◌≤◌, ℕ, List, [], ◌∷◌, length, Result, Ok, Err, OnOk}
 use Rattle.h265_model.specs.declared.line.Line.{Line}
 use Rattle.h265_model.specs.Files.{Rose}
 use Rattle.h265_model.specs.Headline.{Refusal, TooLarge, BadPaint, Limit, scripts_of}
@@ -33,3 +33,4 @@ IsOfOneFile _ = ⊥
 pub record HasInputCause (before now : ℕ) (result : Result (List Line) Status) : Type 0 where
   pub later : before ≤ now
   pub failed : (file : ℕ) → result ≡ Err (status.InputFault file) → Rose before now
+  pub kept : OnOk result (now ≡ before)

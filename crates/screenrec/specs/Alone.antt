@@ -50,8 +50,10 @@ LeavesScript out script before after order written answer =
 
 -- what a status says of the writes of the stream
 abbrev pub sink_result : Status → Result (Unit {0}) WriteError
+sink_result status.Ok = Ok tt
+sink_result status.ReportFault = Ok tt
 sink_result status.SinkFault = Err write.Failed
-sink_result _ = Ok tt
+sink_result _ = Err write.NoMemory
 
 -- the statuses in which the report has something of the text
 abbrev pub IsReported : Status → Type 0

@@ -13,7 +13,7 @@ pub record Counts : Type 0 where
 abbrev pub counts : ℕ → ℕ → ℕ → Counts
 counts reads writes reports = record { reads = reads; writes = writes; reports = reports }
 
--- A fault is answered only where its count rose in the call. The counts never fall.
+-- A fault is answered only where its count rose in the call. The counts never fall, and with Ok none rose.
 pub record HasCauses (before now : Counts) (answer : Status) : Type 0 where
   pub reads_later : before.reads ≤ now.reads
   pub writes_later : before.writes ≤ now.writes
@@ -21,6 +21,7 @@ pub record HasCauses (before now : Counts) (answer : Status) : Type 0 where
   pub input : (file : ℕ) → answer ≡ status.InputFault file → Rose before.reads now.reads
   pub sink : answer ≡ status.SinkFault → Rose before.writes now.writes
   pub report : answer ≡ status.ReportFault → Rose before.reports now.reports
+  pub quiet : answer ≡ status.Ok → (now.reads ≡ before.reads) × (now.writes ≡ before.writes) × (now.reports ≡ before.reports)
 
 -- No count rose.
 pub record NoneRose (before now : Counts) : Type 0 where

@@ -5,8 +5,7 @@ use Rattle.h265_model.specs.declared.line.Line.{Line}
 use Rattle.h265_model.specs.Words.{Settings, SerialWords, RecordWords, Row, Record, Serial, Demo, Decode}
 use Rattle.h265_model.specs.Raster.{pictures}
 use Rattle.h265_model.specs.Histories.{IsLawful, Merges, own_order}
-use Rattle.h265_model.specs.Turn.{StartsWith}
-use Rattle.h265_model.specs.Files.{Files, IsPrefix}
+use Rattle.h265_model.specs.Files.{Files, IsPrefix, file_at}
 use Rattle.h265_model.specs.Headline.{Refusal, TooLarge, BadPaint, Limit, scripts_of, contents, IsPlayed, IsRecorded, IsUntouched, IsCutShort, report_of}
 use Rattle.screenrec.specs.declared.outcome.Status.{Status}
 use Rattle.screenrec.specs.declared.outcome.Status.TheVariants as status
@@ -31,10 +30,15 @@ abbrev pub IsPlayedOut : Playing → List (List Line) → List Entry → Type 0
 IsPlayedOut Alone scripts order = order ≡ own_order scripts
 IsPlayedOut Together scripts order = Merges scripts order
 
--- the orders after want of memory: some lines were played
+-- the orders after want of memory: a script alone has its order from the start; of several clients some lines were played
 abbrev pub IsPlayedInPart : Playing → List (List Line) → List Entry → Type 0
-IsPlayedInPart Alone scripts order = StartsWith (own_order scripts) order
+IsPlayedInPart Alone scripts order = order ≡ own_order scripts
 IsPlayedInPart Together scripts order = Unit {0}
+
+-- After want of memory no piece stands in part, where a script is played alone: OUT has just the bytes that were counted.
+abbrev pub IsWholePieces : Playing → List ℕ → Files → ℕ → Type 0
+IsWholePieces Alone out after written = written ≡ length (file_at after out)
+IsWholePieces Together out after written = Unit {0}
 
 -- ---- what is recorded
 
@@ -97,7 +101,8 @@ module _ (task : Task) (before after : Files) (order : List Entry) (written : �
   LeavesTask (status.InputFault file) = IsUnread file
   LeavesTask status.SinkFault = IsNotMade ⊎ IsBroken (IsPlayedOut task.playing)
   LeavesTask status.ReportFault = IsFinished
-  LeavesTask status.NoMemory = IsUntouched order before after written ⊎ IsBroken (IsPlayedInPart task.playing)
+  LeavesTask status.NoMemory =
+      IsUntouched order before after written ⊎ (IsBroken (IsPlayedInPart task.playing) × IsWholePieces task.playing task.out after written)
   LeavesTask (status.TooLarge file) = IsRefused (TooLarge file)
   LeavesTask (status.BadStream at) = ⊥
   LeavesTask (status.NotBuilt form) = ⊥

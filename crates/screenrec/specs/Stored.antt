@@ -36,7 +36,8 @@ pub record IsStopped (name : List ℕ) (done : List Line) (line : Line) (start a
 -- what one more line leaves in the file, which held the stream after the lines before
 abbrev pub Continues : List ℕ → List Line → Line → Files → Files → Result ℕ WriteError → Type 0
 Continues name done line start after (Ok count) = after ≡ insert start name (stream_after (done ++ line ∷ []))
-Continues name done line start after (Err error) = IsStopped name done line start after
+Continues name done line start after (Err write.Failed) = IsStopped name done line start after
+Continues name done line start after (Err write.NoMemory) = after ≡ insert start name (stream_after done)
 
 -- the stream of all lines stands in the file, or whole pieces of it and a part of the next one
 pub record IsStored (name : List ℕ) (lines : List Line) (before after : Files) (written : ℕ) : Type 0 where
@@ -45,4 +46,6 @@ pub record IsStored (name : List ℕ) (lines : List Line) (before after : Files)
 
 abbrev pub EndsIn : List ℕ → List Line → Files → Files → Result (Unit {0}) WriteError → ℕ → Type 0
 EndsIn name lines before after (Ok done) written = IsStored name lines before after written
-EndsIn name lines before after (Err error) written = IsCutShort built name (rasters_after one_ctu [] lines) before after written
+EndsIn name lines before after (Err write.Failed) written = IsCutShort built name (rasters_after one_ctu [] lines) before after written
+EndsIn name lines before after (Err write.NoMemory) written =
+    IsCutShort built name (rasters_after one_ctu [] lines) before after written × (written ≡ length (file_at after name))

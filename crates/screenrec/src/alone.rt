@@ -47,8 +47,10 @@ fn report_script<K: Sink>(alloc: Global, script: &Script, written: u64, report: 
     ensures status { IsOfReport result }
     ensures later { K.faults report.old ≤ K.faults report.new }
     ensures cause { result ≡ Status.ReportFault → Rose (K.faults report.old) (K.faults report.new) }
+    ensures kept { result ≡ Status.Ok → K.faults report.new ≡ K.faults report.old }
     ensures text { WhereTold (K.text report.old) (K.text report.new) (λ was now. ReportsScript script.now written was now result) }
     ensures beside { WhereTold (K.beside report.old) (K.beside report.new) (λ was now. now ≡ was) }
+    ensures through { K.through report.new ≡ K.through report.old }
 {
     let cuts = script.cuts();
     let paints = script.lines() - cuts;
@@ -72,12 +74,14 @@ fn record_script<F: Shelf, K: Sink>(
     ensures reads { F.read_faults shelf.new ≡ F.read_faults shelf.old }
     ensures later { K.faults report.old ≤ K.faults report.new }
     ensures cause { result.status ≡ Status.ReportFault → Rose (K.faults report.old) (K.faults report.new) }
+    ensures kept { result.status ≡ Status.Ok → K.faults report.new ≡ K.faults report.old }
     ensures files { WhereTold (F.files shelf.old) (F.files shelf.new) (λ before after.
         LeavesScript out.now script.now before after result.order result.written result.status) }
     ensures text { WhereTold (K.text report.old) (K.text report.new) (λ was now.
         ReportsScript script.now result.written was now result.status) }
     ensures own { IsReported result.status → result.order ≡ own_order (script.now ∷ []) }
     ensures beside { WhereTold (K.beside report.old) (K.beside report.new) (λ was now. now ≡ was) }
+    ensures through { K.through report.new ≡ K.through report.old }
 {
     let Ok(order) = entries(alloc, script.lines()) else {
         return Outcome::refused(alloc, Status::NoMemory);
@@ -121,6 +125,7 @@ pub fn record_alone<F: Shelf, K: Sink>(
         LeavesTask (alone_task out.now file.now) before after result.order result.written result.status) }
     ensures silent { WhereTold (K.text report.old) (K.text report.new) (λ was now. IsSilent result.status was now) }
     ensures beside { WhereTold (K.beside report.old) (K.beside report.new) (λ was now. now ≡ was) }
+    ensures through { K.through report.new ≡ K.through report.old }
     ensures reported { WhereTold (F.files shelf.old) (F.files shelf.new) (λ before after.
         WhereTold (K.text report.old) (K.text report.new) (λ was now.
         ReportsTask (alone_task out.now file.now) before was now result.status result.order result.written)) }
@@ -165,6 +170,7 @@ pub fn serve<F: Shelf, K: Sink>(
         Leaves (serial_words_service (serial_view words.now)) before after result.status result.order result.written) }
     ensures silent { WhereTold (K.text report.old) (K.text report.new) (λ was now. IsSilent result.status was now) }
     ensures beside { WhereTold (K.beside report.old) (K.beside report.new) (λ was now. now ≡ was) }
+    ensures through { K.through report.new ≡ K.through report.old }
     ensures reported { WhereTold (F.files shelf.old) (F.files shelf.new) (λ before after.
         WhereTold (K.text report.old) (K.text report.new) (λ was now.
         Reports (serial_words_service (serial_view words.now)) before was now result.status result.order result.written)) }

@@ -18,6 +18,7 @@ pub fn run_demo<K: Sink>(alloc: Global, words: &[&str], report: &mut K) -> Outco
     ensures refused { RefusesEmpty (demo_service (row_of (texts words.now))) result.status result.order result.written }
     ensures silent { WhereTold (K.text report.old) (K.text report.new) (λ was now. now ≡ was) }
     ensures beside { WhereTold (K.beside report.old) (K.beside report.new) (λ was now. now ≡ was) }
+    ensures through { K.through report.new ≡ K.through report.old }
 {
     let _report = report;
     match read_words(words) {

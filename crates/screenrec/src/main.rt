@@ -21,10 +21,9 @@ pub use outcome::{Form, Outcome, Status};
 pub use recording::run;
 pub use serial::run_serial;
 use std::alloc::Global;
-use std::env;
-use std::fs;
 use std::process::ExitCode;
 use std::rt::Env;
+use std::{env, fs};
 
 /// Serves the words by the call that their first one names, and exits with the number of the status. Where that isn't 0,
 /// one line on standard error says why.

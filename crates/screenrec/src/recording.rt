@@ -42,6 +42,7 @@ pub fn run<R: Threads + Wait + Sync, F: Shelf + Send, K: Sink, G: Gate + Sync>(
     ensures silent { WhereTold (K.text report.old) (K.text report.new) (λ was now. IsSilent result.status was now) }
     // what stands beside it stays as it was,
     ensures beside { WhereTold (K.beside report.old) (K.beside report.new) (λ was now. now ≡ was) }
+    ensures through { K.through report.new ≡ K.through report.old }
     // and with Ok it grew by its text.
     ensures reported { WhereTold (F.files shelf.old) (F.files shelf.new) (λ before after.
         WhereTold (K.text report.old) (K.text report.new) (λ was now.

@@ -32,6 +32,7 @@ pub fn write_report<K: Sink>(
     ensures text { WhereTold (K.text report.old) (K.text report.new) (λ was now. Writes (report_text pictures paints bytes) was now result) }
     ensures cause { HasWriteCause (K.faults report.old) (K.faults report.new) result }
     ensures beside { WhereTold (K.beside report.old) (K.beside report.new) (λ was now. now ≡ was) }
+    ensures through { K.through report.new ≡ K.through report.old }
 {
     let Ok(text) = text(alloc, pictures, paints, bytes) else {
         return Err(WriteError::NoMemory);

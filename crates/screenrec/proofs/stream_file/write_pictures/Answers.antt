@@ -11,7 +11,7 @@ returns-in-Err-clause-files g c =
     let more : take (k + 1) lines ≡ take k lines ++ c.line_at.result.now ∷ [] =
     take_more lines k c.line_at.result.now (rw c.lines-index-end.ensures.value at c.loop-index-test.true) ∙ ap (λ (line : Line). take k lines ++ line ∷ []) (sym c.line_at.ensures.line) in
     told_stopped (g.F.Shelf.files c.args.shelf.now) (g.F.Shelf.files c.loop-index.shelf) (g.F.Shelf.files c.play_line.new.shelf)
-    c.args.name.now lines k c.loop-index.written c.line_at.result.now more c.loop-index.invariant.counted c.loop-index.invariant.told
+    c.args.name.now lines k c.loop-index.written c.line_at.result.now c.in-Err.error more c.loop-index.invariant.counted c.loop-index.invariant.told
     (c.in-Err.ensures.files (take k lines) c.loop-index.invariant.shown)
 
 pub returns-clause-files : goal.returns-clause-files

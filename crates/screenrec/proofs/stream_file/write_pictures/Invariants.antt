@@ -14,6 +14,6 @@ invariant-loop-index g l = record {
   shown : ShowsLines l.picture (take l.index l.script);
   sized : l.picture.size ≡ one_ctu;
   short : l.written ≤ 8192 + 8192 * l.index;
-  later : g.F.Shelf.write_faults l.fn.shelf ≤ g.F.Shelf.write_faults l.shelf;
+  writes : g.F.Shelf.write_faults l.shelf ≡ g.F.Shelf.write_faults l.fn.shelf;
   reads : g.F.Shelf.read_faults l.shelf ≡ g.F.Shelf.read_faults l.fn.shelf;
 }
