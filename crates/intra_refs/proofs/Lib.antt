@@ -1,0 +1,5 @@
+pub mod Order
+pub mod Segments
+pub mod Smoothed
+pub mod Filling
+pub mod Sides

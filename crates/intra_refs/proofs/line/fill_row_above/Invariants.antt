@@ -1,0 +1,10 @@
+use Rattle.std.proofs.Common.{◌≡◌, ◌+◌, ◌*◌}
+use Rattle.px_plane.specs.Planes.{picture_of}
+use Rattle.intra_refs.specs.Neighbours.{neighbour, carried, IsFilled}
+use Rattle.intra_refs.proofs.line.fill_row_above.Given as goal
+
+abbrev pub invariant-loop-part : goal.invariant-loop-part
+invariant-loop-part l = record {
+  filled : IsFilled l.line l.first (λ i. neighbour l.picture.size (picture_of l.picture) l.component l.x l.y l.n (2 * l.n + 1 + i)) (8 * l.part);
+  carried : l.before ≡ carried l.first (λ i. neighbour l.picture.size (picture_of l.picture) l.component l.x l.y l.n (2 * l.n + 1 + i)) (8 * l.part);
+}
