@@ -1,6 +1,6 @@
 //! Why nothing was measured.
 use h265_model::NoMemory;
-use std::alloc::AllocError;
+use std::alloc::{AllocError, AllocFailed};
 use std::io;
 use thiserror::Error;
 
@@ -25,6 +25,12 @@ impl From<NoMemory> for Trouble {
 
 impl From<AllocError> for Trouble {
     fn from(_: AllocError) -> Self {
+        Trouble::NoMemory
+    }
+}
+
+impl<T: Drop> From<AllocFailed<T>> for Trouble {
+    fn from(_: AllocFailed<T>) -> Self {
         Trouble::NoMemory
     }
 }

@@ -5,6 +5,7 @@ use std::alloc::Global;
 use std::fmt::{self, Display, Formatter};
 
 /// What is said of one script.
+#[derive(Drop)]
 pub enum Verdict {
     /// It has so many lines, and is written as it was read.
     Read { lines: u32 },
