@@ -10,7 +10,7 @@ pub fn noise(alloc: Global, count: usize) -> Result<Vec<u8>, Trouble> {
         state ^= state << 13;
         state ^= state >> 7;
         state ^= state << 17;
-        *byte = (state >> 32) as u8;
+        *byte = (state % 256) as u8;
     }
     Ok(bytes)
 }

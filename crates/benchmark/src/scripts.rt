@@ -5,6 +5,7 @@ use paint_script::read_script;
 use std::alloc::Global;
 use std::rt::Clock;
 
+#[derive(Drop)]
 struct Reading<'a> {
     text: &'a [u8],
 }

@@ -6,6 +6,7 @@ use annexb::{append_unit, units};
 use std::alloc::Global;
 use std::rt::Clock;
 
+#[derive(Drop)]
 struct Writing<'a> {
     payload: &'a [u8],
     out: Vec<u8>,
@@ -19,6 +20,7 @@ impl<'a> Work for Writing<'a> {
     }
 }
 
+#[derive(Drop)]
 struct Reading<'a> {
     stream: &'a [u8],
 }
