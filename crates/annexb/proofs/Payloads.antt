@@ -43,7 +43,7 @@ payload-mark list n h all mark =
     let Q : ℕ → Type 0 = λ n. ArePlain 0 1 list n in
     payload-after list k (omega arith) (subst Q whole all) (mark_after 0 1 list n k whole mark)
 
-all_zeros : (list : List ℕ) → ((k : ℕ) → k < length list → get_or list k 0 ≡ 0) → only_zeros list ≡ true
+pub all_zeros : (list : List ℕ) → ((k : ℕ) → k < length list → get_or list k 0 ≡ 0) → only_zeros list ≡ true
 all_zeros [] h = refl
 all_zeros (b ∷ list) h =
     let first : b ≡ 0 = h 0 (omega arith) in

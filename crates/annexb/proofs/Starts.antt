@@ -4,6 +4,7 @@ use Rattle.std.proofs.lemmas.List.{drop_all}
 use Rattle.std.specs.Prelude.{◌&&◌, ◌==◌, nat_le}
 use Rattle.std.proofs.lemmas.Bool.Decides.{nat_tests}
 use Rattle.h265_model.specs.NalUnits.{next_start, only_zeros}
+use Rattle.annexb.proofs.Payloads.{all_zeros}
 
 -- n zeros stand at the front, and another byte after them if there is one
 pub record AreFrontZeros (list : List ℕ) (n : ℕ) : Type 0 where
@@ -70,13 +71,6 @@ start-refused at z (b ∷ list) (suc n) is h few =
     ∙ ap Err (sum_later at n)
 
 -- only zeros, or another byte at a place
-all_zeros : (list : List ℕ) → ((k : ℕ) → k < length list → get_or list k 0 ≡ 0) → only_zeros list ≡ true
-all_zeros [] h = refl
-all_zeros (b ∷ list) h =
-    let first : b ≡ 0 = h 0 (omega arith) in
-    let others = all_zeros list (λ k l. h (suc k) (omega arith)) in
-    grind (arith, nat_tests, others)
-
 pub zeros-all : (list : List ℕ) (n : ℕ) → AreFrontZeros list n → n ≡ length list → only_zeros list ≡ true
 zeros-all list n is h = all_zeros list (λ k l. is.zeros k (omega arith))
 
