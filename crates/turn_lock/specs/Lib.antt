@@ -1,0 +1,4 @@
+pub mod Listed
+pub mod Settings
+pub mod Standing
+pub mod Turns
