@@ -6,7 +6,7 @@ use mathlib.Core.Logic.{dite}
 use native.Mathlib.Decide.{ℕ_discrete, dec_le}
 use Rattle.h265_model.specs.declared.entry.Entry.{Entry}
 use Rattle.h265_model.specs.Turn.{author, entries_by}
-use Rattle.turn_lock.specs.Turns.{made_by, one_more, none_made, longer, shorter, Begins}
+use Rattle.turn_lock.specs.Turns.{made_by, one_more, times_in, none_made, longer, shorter, Begins}
 
 pub begins_same : (xs : List Entry) → Begins xs xs
 begins_same xs = ([], sym (append-nil xs))
@@ -128,6 +128,23 @@ none_made-has a s zero low high = absurd (omega arith)
 none_made-has a s (suc n) low high = dite (ℕ_discrete a s)
     (λ is. made_by-here a (s, 0) (none_made (suc s) n) is)
     (λ apart. made_by-later a (s, 0) (none_made (suc s) n) apart ∙ none_made-has a (suc s) n (omega arith) (omega arith))
+
+-- numbers in front of others, and one entry more, by how often each stands there
+pub times_in-append : (a : ℕ) (xs ys : List (ℕ × ℕ)) → times_in a (xs ++ ys) ≡ times_in a xs + times_in a ys
+times_in-append a [] ys = omega arith
+times_in-append a (x ∷ xs) ys = omega (arith, times_in-append a xs ys)
+
+pub times_in-more : (a b : ℕ) (xs : List (ℕ × ℕ)) → times_in a (one_more b xs) ≡ times_in a xs
+times_in-more a b [] = refl
+times_in-more a b (x ∷ xs) = dite (ℕ_discrete b x.0)
+    (λ is. rw (eq-eqb b x.0 is) refl)
+    (λ apart. rw (ne_eqb b x.0 apart) (ap (λ n. (if a == x.0 then 1 else 0) + n) (times_in-more a b xs)))
+
+pub none_made-times : (a s n : ℕ) → times_in a (none_made s n) ≡ (if nat_lt a (s + n) then (if nat_lt a s then 0 else 1) else 0)
+none_made-times a s zero = grind (arith, nat_tests)
+none_made-times a s (suc n) = let r = none_made-times a (suc s) n in dite (ℕ_discrete a s)
+    (λ is. rw (eq-eqb a s is) (grind (arith, nat_tests)))
+    (λ apart. rw (ne_eqb a s apart) (grind (arith, nat_tests)))
 
 pub longer_begins : (xs ys log : List Entry) → Begins xs log → Begins ys log → Begins (longer xs ys) log
 longer_begins xs ys log b c = elim (nat_lt (length xs) (length ys)) as (λ t. Begins (if t then ys else xs) log) [ true ↦ c | false ↦ b ]

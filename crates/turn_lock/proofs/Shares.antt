@@ -1,5 +1,6 @@
 -- A pass is cut in two, two are joined, and the last one closes the turn.
-use Rattle.std.proofs.Common.{◌≡◌, ◌≢◌, ◌⊎◌, ℕ, zero, suc, ◌+◌, ◌-◌, ◌*◌, ◌^◌, ◌%◌, ◌<◌, ◌≤◌, ◌||◌, ◌==◌, eqb, eq-eqb, ne_eqb, List, [], ◌∷◌, ◌++◌, map, length, set, get_or, Bool, true, false, if◌then◌else◌, Option, Some, None, refl, sym, ap, ◌∙◌, subst, inl, inr, ⊎_elim, arith, length-set, true≢false}
+use Rattle.std.proofs.lemmas.Bool.Decides.{nat_tests}
+use Rattle.std.proofs.Common.{nat_lt, ◌≡◌, ◌≢◌, ◌⊎◌, ℕ, zero, suc, ◌+◌, ◌-◌, ◌*◌, ◌^◌, ◌%◌, ◌<◌, ◌≤◌, ◌||◌, ◌==◌, eqb, eq-eqb, ne_eqb, List, [], ◌∷◌, ◌++◌, map, length, set, get_or, Bool, true, false, if◌then◌else◌, Option, Some, None, refl, sym, ap, ◌∙◌, subst, inl, inr, ⊎_elim, arith, length-set, true≢false}
 use mathlib.Core.Logic.{dite}
 use mathlib.Core.Option.{some, none, some-injective, some-ne-none}
 use native.Mathlib.Decide.{ℕ_discrete}
@@ -10,9 +11,9 @@ use Rattle.h265_model.specs.declared.entry.Entry.{Entry}
 use Rattle.h265_model.specs.Setting.{Setting}
 use Rattle.h265_model.specs.Turn.{author, entries_by}
 use Rattle.turn_lock.specs.declared.knowledge.Knowledge.{Knowledge}
-use Rattle.turn_lock.specs.Turns.{made_by, none_made, total_weight, longer, shorter, Fits, Agree, Kept, opening_view, without_first, only_first, lighter, noted, merged, spent, finds, compared, HasClosed, Begins}
-use Rattle.turn_lock.proofs.Histories.{begins_same, begins_nil, begins_of, between, some_is, made_by-here, made_by-later, made_by-append, made_by-left, made_by-right, none_made-zero, none_made-has, longer_begins, shorter_begins, shorter_le, both_begin}
-use Rattle.turn_lock.proofs.Views.{total_weight-set, total_weight-snoc, set_there}
+use Rattle.turn_lock.specs.Turns.{made_by, none_made, times_in, tail_of, head_of, total_weight, longer, shorter, Fits, Agree, Kept, opening_view, without_first, only_first, lighter, noted, merged, spent, finds, compared, HasClosed, Begins}
+use Rattle.turn_lock.proofs.Histories.{begins_same, begins_nil, begins_of, between, some_is, made_by-here, made_by-later, made_by-append, made_by-left, made_by-right, times_in-append, none_made-zero, none_made-has, none_made-times, longer_begins, shorter_begins, shorter_le, both_begin}
+use Rattle.turn_lock.proofs.Views.{total_weight-set, total_weight-snoc, times-set, times-snoc, set_there}
 use Rattle.turn_lock.proofs.Steps.{unmoved}
 
 at_snoc : (vs : List Knowledge) (w u : Knowledge) (i : ℕ) → get_elem? (vs ++ w ∷ []) i ≡ some u → (get_elem? vs i ≡ some u) ⊎ ((i ≡ length vs) × (w ≡ u))
@@ -64,8 +65,9 @@ module _ (setting : Setting) (passes : ℕ) (log : List Entry) (mark held : Bool
       → ((i : ℕ) (u : Knowledge) → i ≢ j → i < length vs → F owner i u → F owner' i u) → F owner' j v' → F owner' (length vs) w
       → ((a k : ℕ) → made_by a v.made ≡ Some k → ((owner' a ≡ j) × ((k' : ℕ) × (made_by a v'.made ≡ Some k'))) ⊎ ((owner' a ≡ length vs) × (0 < w.weight) × ((k' : ℕ) × (made_by a w.made ≡ Some k'))))
       → ((a : ℕ) → a < passes → owner a ≢ j → owner' a ≡ owner a)
+      → ((a : ℕ) → times_in a v'.made + times_in a w.made ≡ times_in a v.made)
       → Agree setting passes log mark held holder owner' (set vs j v' ++ w ∷ [])
-  agree_split owner owner' vs j v v' w a at live weight holds raised others mine new numbers elsewhere =
+  agree_split owner owner' vs j v v' w a at live weight holds raised others mine new numbers elsewhere shared =
       let long : length (set vs j v') ≡ length vs = length-set vs j v' in
       let vs' : List Knowledge = set vs j v' in
       let keeps_at : (i : ℕ) (u : Knowledge) → i ≢ j → get_elem? vs i ≡ some u → get_elem? (vs' ++ w ∷ []) i ≡ some u = λ i u apart there. at_longer vs' (w ∷ []) i u (set_else vs j i v' apart ∙ there) in
@@ -99,6 +101,7 @@ module _ (setting : Setting) (passes : ℕ) (log : List Entry) (mark held : Bool
             (λ same. let is : o.1 ≡ v = some-injective o.1 v (sym o.2 ∙ (ap (get_elem? vs) same ∙ at)) in (j, v', mine_at, live, raised ∙ (ap (λ (u : Knowledge). u.raised) (sym is) ∙ o.4)))
             (λ apart. (o.0, o.1, keeps_at o.0 o.1 apart o.2, o.3, o.4));
         weighs = let t = total_weight-set vs j v v' at in let u = total_weight-snoc vs' w in let z = a.weighs in omega arith;
+        once = λ n. let t = times-set n vs j v v' at in let u = times-snoc n vs' w in let e = shared n in let z = a.once n in omega arith;
       }
 
   -- one pass or note takes in another
@@ -181,6 +184,12 @@ module _ (setting : Setting) (passes : ℕ) (log : List Entry) (mark held : Bool
             (λ same. (j, both, both_at, joint, or_left v.raised w.raised (ap (λ (u : Knowledge). u.raised) (sym (at_j o.0 o.1 o.2 same)) ∙ o.4)))
             (λ other'. (o.0, o.1, keeps_at o.0 o.1 other other' o.2, o.3, o.4)));
         weighs = let t = total_weight-set vs j v both at in let u = total_weight-set vs' i w spent there' in let z = a.weighs in omega arith;
+        once = λ n.
+            let t = times-set n vs j v both at in
+            let u = times-set n vs' i w spent there' in
+            let e = times_in-append n v.made w.made in
+            let z = a.once n in
+            omega arith;
       }
     where
       nothing : (u : Knowledge) → spent ≡ u → 0 < u.weight → ⊥
@@ -206,6 +215,7 @@ module _ {S : Type 0} (setting_of : S → Setting) (history_of : S → List Entr
     one_word = r.one_word;
     one_slot = r.one_slot;
     word = r.word;
+    away = r.away;
     at_home = r.at_home;
     agree = agree;
   }
@@ -234,7 +244,8 @@ module _ {S : Type 0} (setting_of : S → Setting) (history_of : S → List Entr
         holding = λ e. absurd (true≢false (sym e));
       }
       (λ a k e. inl ((f.own a k e).0, (k, e)))
-      (λ a _ _. refl))
+      (λ a _ _. refl)
+      (λ a. omega arith))
 
   -- who has the numbers, once the number a went to the seat j
   abbrev given : (ℕ → ℕ) → ℕ → ℕ → ℕ → ℕ
@@ -253,6 +264,10 @@ module _ {S : Type 0} (setting_of : S → Setting) (history_of : S → List Entr
     where
       none_is : (k : ℕ) → made_by k [] ≡ Some k → ⊥
       none_is k e = cc
+
+  times_in-cut : (b : ℕ) (xs : List (ℕ × ℕ)) → times_in b (tail_of xs) + times_in b (head_of xs) ≡ times_in b xs
+  times_in-cut b [] = refl
+  times_in-cut b (x ∷ xs) = omega arith
 
   pub hands_out : (id a m : ℕ) (v : Knowledge) → v.made ≡ none_made a (suc m) → 2 ^ 32 < v.weight → v.holds ≡ false → Splits Rule id v (without_first v) (only_first v)
   hands_out id a m v numbers heavy idle s r at =
@@ -294,7 +309,8 @@ module _ {S : Type 0} (setting_of : S → Setting) (history_of : S → List Entr
       (λ b k e. dite (ℕ_discrete b a)
       (λ is. inr (given_here r.owner a len b is, omega arith, (0, ap (made_by b) head ∙ made_by-here b (a, 0) [] is)))
       (λ apart. inl (given_else r.owner a len b apart ∙ (f.own b k e).0, (k, ap (made_by b) tail ∙ (sym (made_by-later b (a, 0) (none_made (suc a) m) apart) ∙ (sym (ap (made_by b) numbers) ∙ e))))))
-      (λ b _ apart. given_else r.owner a len b (λ is. apart (ap r.owner is ∙ own_a.0))))
+      (λ b _ apart. given_else r.owner a len b (λ is. apart (ap r.owner is ∙ own_a.0)))
+      (λ b. times_in-cut b v.made))
 
   pub joins : (id other : ℕ) (v w : Knowledge) → 0 < v.weight → 0 < w.weight → w.holds ≡ false → Joins Rule id v other w (merged v w) spent
   joins id other v w live alive idle s r at apart there =
@@ -335,6 +351,7 @@ module _ {S : Type 0} (setting_of : S → Setting) (history_of : S → List Entr
         one_word = refl;
         one_slot = refl;
         word = refl;
+        away = λ e. absurd (true≢false (sym e));
         at_home = λ _. (x, refl, refl, empty, unmarked);
         agree = record {
           each = each;
@@ -342,9 +359,13 @@ module _ {S : Type 0} (setting_of : S → Setting) (history_of : S → List Entr
           out = λ e. absurd (true≢false (sym e));
           marked = λ e. absurd (true≢false (sym e));
           weighs = omega arith;
+          once = λ a. once_each a (none_made-times a 0 passes);
         };
       }
     where
+      once_each : (a : ℕ) → times_in a (none_made 0 passes) ≡ (if nat_lt a (0 + passes) then (if nat_lt a 0 then 0 else 1) else 0) → times_in a (none_made 0 passes) + 0 ≡ (if nat_lt a passes then 1 else 0)
+      once_each a is = grind (arith, nat_tests, is)
+
       each : (j : ℕ) (u : Knowledge) → get_elem? (opening_view (setting_of x) passes ∷ []) j ≡ some u → 0 < u.weight → Fits (setting_of x) passes [] false false 0 (λ _. 0) j u
       each zero u e alive = subst (Fits (setting_of x) passes [] false false 0 (λ _. 0) 0) (some-injective (opening_view (setting_of x) passes) u e) record {
         same_setting = refl;

@@ -12,8 +12,8 @@ use Rattle.h265_model.specs.declared.entry.Entry.{Entry}
 use Rattle.h265_model.specs.Setting.{Setting}
 use Rattle.h265_model.specs.Turn.{author, entries_by}
 use Rattle.turn_lock.specs.declared.knowledge.Knowledge.{Knowledge}
-use Rattle.turn_lock.specs.Turns.{made_by, one_more, total_weight, Fits, Agree, Kept, finds, holding, gives_back, gives_entry, OwnExact, Enters, taken, looked, compared, returned, added, Begins}
-use Rattle.turn_lock.proofs.Histories.{begins_same, begins_nil, begins_more, begins_of, entries_by-snoc, by_itself, by_another, one_more-same, one_more-other, some_is, snoc_same, own_more, numbers_more}
+use Rattle.turn_lock.specs.Turns.{made_by, one_more, times_in, total_weight, Fits, Agree, Kept, finds, holding, gives_back, gives_entry, OwnExact, Enters, taken, looked, compared, returned, added, Begins}
+use Rattle.turn_lock.proofs.Histories.{begins_same, begins_nil, begins_more, begins_of, entries_by-snoc, by_itself, by_another, one_more-same, one_more-other, times_in-more, some_is, snoc_same, own_more, numbers_more}
 use Rattle.turn_lock.proofs.Views.{total_weight-set, agree_set}
 
 even_is_free : (held : Bool) (n l : ℕ) → n ≡ 2 * l + (if held then 1 else 0) → n % 2 ≡ 0 → held ≡ false
@@ -74,9 +74,10 @@ module _ {S : Type 0} (setting_of : S → Setting) (history_of : S → List Entr
     one_word = r.one_word;
     one_slot = r.one_slot;
     word = r.word;
+    away = r.away;
     at_home = r.at_home;
     agree = agree_set r.setting r.passes r.owner r.log r.log r.mark r.mark r.held r.held r.holder r.holder s.views id v w r.agree at (omega arith) (same_weight r.passes s.views id v w at weight r.agree.weighs)
-        (λ i u _ f. f) fits (λ a k e. (k, ap (made_by a) made ∙ e)) (λ h. inr (h, refl, λ e. holds ∙ e)) (λ h. inr h) (λ e. raised ∙ e);
+        (λ i u _ f. f) fits (λ a k e. (k, ap (made_by a) made ∙ e)) (λ h. inr (h, refl, λ e. holds ∙ e)) (λ h. inr h) (λ e. raised ∙ e) (λ a. ap (times_in a) made);
   }
 
   found_one : (s : St) (id : ℕ) (cs : List (ℕ × Option S)) (v : Knowledge) → Rule s → get_elem? s.views id ≡ some v → 0 < v.weight → Rule (stepped s 0 (get_or s.words 0 0) id cs (finds v (get_or s.words 0 0)) keeps)
@@ -103,6 +104,7 @@ module _ {S : Type 0} (setting_of : S → Setting) (history_of : S → List Entr
         one_word = length-set s.words 0 new ∙ r.one_word;
         one_slot = length-set s.homes 0 none ∙ r.one_slot;
         word = get_or-set_same s.words 0 new 0 (omega arith) ∙ (let n = word_free r.held (get_or s.words 0 0) (length r.log) r.word free in omega arith);
+        away = λ _. set_here s.homes 0 none (let deep = r.one_slot in omega arith);
         at_home = λ h. absurd (true≢false h);
         agree = agree_set r.setting r.passes r.owner r.log r.log r.mark r.mark r.held true r.holder id s.views id v w r.agree at live (same_weight r.passes s.views id v w at refl r.agree.weighs)
             (λ i u _ g. record {
@@ -123,7 +125,7 @@ module _ {S : Type 0} (setting_of : S → Setting) (history_of : S → List Entr
               saw_mark = f.saw_mark;
               holding = λ _. (refl, refl, log, mark);
             }
-            (λ a k e. (k, e)) (λ _. inl (refl, refl)) (λ h. inr h) (λ e. e);
+            (λ a k e. (k, e)) (λ _. inl (refl, refl)) (λ h. inr h) (λ e. e) (λ _. refl);
       }
 
   pub takes_turn : (slots id old new : ℕ) (me : M) → 0 < me.0.weight → me.0.holds ≡ false → old % 2 ≡ 0 → old + 1 ≡ new
@@ -196,8 +198,9 @@ module _ {S : Type 0} (setting_of : S → Setting) (history_of : S → List Entr
       → (mark_of x ≡ true → (w.raised ≡ true) ⊎ (r.mark ≡ true)) → (v.raised ≡ true → w.raised ≡ true)
       → ((i : ℕ) (u : Knowledge) → i ≢ id → Fits r.setting r.passes r.log r.mark r.held r.holder r.owner i u → Fits r.setting r.passes log' (mark_of x) false r.holder r.owner i u)
       → Fits r.setting r.passes log' (mark_of x) false r.holder r.owner id w
+      → ((a : ℕ) → times_in a w.made ≡ times_in a v.made)
       → Rule (stepped s 0 new id cs w gives)
-  goes_home s id cs v w x log' new r at live weight carried setting history word numbers marked raised others fits =
+  goes_home s id cs v w x log' new r at live weight carried setting history word numbers marked raised others fits same_numbers =
       let long = r.one_word in
       let deep = r.one_slot in
       subst (λ (l : List (ℕ × Option S)). Rule (stepped s 0 new id l w gives)) (sym carried) record {
@@ -211,9 +214,10 @@ module _ {S : Type 0} (setting_of : S → Setting) (history_of : S → List Entr
         one_word = length-set s.words 0 new ∙ r.one_word;
         one_slot = length-set s.homes 0 (some (Some x)) ∙ r.one_slot;
         word = get_or-set_same s.words 0 new 0 (omega arith) ∙ omega arith;
+        away = λ h. absurd (true≢false (sym h));
         at_home = λ _. (x, set_here s.homes 0 (some (Some x)) (omega arith), setting, history, refl);
         agree = agree_set r.setting r.passes r.owner r.log log' r.mark (mark_of x) r.held false r.holder r.holder s.views id v w r.agree at (omega arith) (same_weight r.passes s.views id v w at weight r.agree.weighs)
-            others fits numbers (λ h. absurd (true≢false (sym h))) marked raised;
+            others fits numbers (λ h. absurd (true≢false (sym h))) marked raised same_numbers;
       }
 
   -- what a store needs of the state that is given back
@@ -259,7 +263,8 @@ module _ {S : Type 0} (setting_of : S → Setting) (history_of : S → List Entr
               own = λ a k e. let o = f.own a k e in (o.0, o.1, ap (entries_by r.passes a) h.2 ∙ o.1);
               saw_mark = λ e. e;
               holding = λ e. absurd (true≢false (sym e));
-            },
+            }
+            (λ _. refl),
         λ y carried. λ i. (gives_back v v.base (mark_of (one_state me.1 x y ready.carried carried i)), Rattle.atomic_table.specs.Table.rest (carried i)),
       )
 
@@ -298,7 +303,8 @@ module _ {S : Type 0} (setting_of : S → Setting) (history_of : S → List Entr
               own = λ a k e. let c = count a k e in ((f.own a c.1.0 c.1.1).0, c.0, ap (entries_by r.passes a) now ∙ c.0);
               saw_mark = λ e. e;
               holding = λ e. absurd (true≢false (sym e));
-            },
+            }
+            (λ a. times_in-more a b v.made),
         λ y f carried history'. λ i.
             let same = one_state me.1 x y ready.carried carried in
             (gives_entry v (one_entry v x y e f same history history' i) (mark_of (same i)), Rattle.atomic_table.specs.Table.rest (carried i)),

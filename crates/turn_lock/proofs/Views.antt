@@ -8,7 +8,7 @@ use Rattle.atomic_table.proofs.Lists.{at_set, set_else}
 use Rattle.h265_model.specs.declared.entry.Entry.{Entry}
 use Rattle.h265_model.specs.Setting.{Setting}
 use Rattle.turn_lock.specs.declared.knowledge.Knowledge.{Knowledge}
-use Rattle.turn_lock.specs.Turns.{made_by, total_weight, Fits, Agree}
+use Rattle.turn_lock.specs.Turns.{made_by, times_in, times, total_weight, Fits, Agree}
 
 pub total_weight-set : (vs : List Knowledge) (j : ℕ) (v w : Knowledge) → get_elem? vs j ≡ some v → total_weight (set vs j w) + v.weight ≡ total_weight vs + w.weight
 total_weight-set [] j v w at = absurd (some-ne-none v (sym at))
@@ -18,6 +18,15 @@ total_weight-set (x ∷ xs) (suc j) v w at = let r = total_weight-set xs j v w a
 pub total_weight-snoc : (vs : List Knowledge) (w : Knowledge) → total_weight (vs ++ w ∷ []) ≡ total_weight vs + w.weight
 total_weight-snoc [] w = omega arith
 total_weight-snoc (x ∷ xs) w = omega (arith, total_weight-snoc xs w)
+
+pub times-set : (a : ℕ) (vs : List Knowledge) (j : ℕ) (v w : Knowledge) → get_elem? vs j ≡ some v → times a (set vs j w) + times_in a v.made ≡ times a vs + times_in a w.made
+times-set a [] j v w at = absurd (some-ne-none v (sym at))
+times-set a (x ∷ xs) zero v w at = let e : times_in a x.made ≡ times_in a v.made = ap (λ (u : Knowledge). times_in a u.made) (some-injective x v at) in omega arith
+times-set a (x ∷ xs) (suc j) v w at = let r = times-set a xs j v w at in omega arith
+
+pub times-snoc : (a : ℕ) (vs : List Knowledge) (w : Knowledge) → times a (vs ++ w ∷ []) ≡ times a vs + times_in a w.made
+times-snoc a [] w = omega arith
+times-snoc a (x ∷ xs) w = omega (arith, times-snoc a xs w)
 
 pub set_there : (vs : List Knowledge) (j : ℕ) (v w : Knowledge) → get_elem? vs j ≡ some v → get_elem? (set vs j w) j ≡ some w
 set_there [] j v w at = absurd (some-ne-none v (sym at))
@@ -41,8 +50,9 @@ module _ (setting : Setting) (passes : ℕ) (owner : ℕ → ℕ) where
       → (held' ≡ true → ((holder' ≡ j) × (w.holds ≡ true)) ⊎ ((held ≡ true) × (holder' ≡ holder) × (v.holds ≡ true → w.holds ≡ true)))
       → (mark' ≡ true → (w.raised ≡ true) ⊎ (mark ≡ true))
       → (v.raised ≡ true → w.raised ≡ true)
+      → ((a : ℕ) → times_in a w.made ≡ times_in a v.made)
       → Agree setting passes log' mark' held' holder' owner (set vs j w)
-  agree_set log log' mark mark' held held' holder holder' vs j v w a at live weighs others mine numbers out marked raised = record {
+  agree_set log log' mark mark' held held' holder holder' vs j v w a at live weighs others mine numbers out marked raised same_numbers = record {
     each = λ i u there alive. ⊎_elim
         (λ (t : (i ≡ j) × (w ≡ u)). subst (λ (x : ℕ × Knowledge). Fits setting passes log' mark' held' holder' owner x.0 x.1) (λ k. (sym t.0 k, t.1 k)) mine)
         (λ (t : (i ≢ j) × (get_elem? vs i ≡ some u)). others i u t.0 (a.each i u t.1 alive))
@@ -66,4 +76,5 @@ module _ (setting : Setting) (passes : ℕ) (owner : ℕ → ℕ) where
         (o.0, s.0, s.1, s.2.0, s.2.1))
         (marked h);
     weighs = weighs;
+    once = λ n. let t = times-set n vs j v w at in let e = same_numbers n in let o = a.once n in omega arith;
   }

@@ -1,6 +1,6 @@
 -- The rule of the turn, over its word, its slot and what all passes know, and what each step tells.
 use Rattle.std.specs.Prelude.{◌≡◌, ◌≢◌, ◌⊎◌, ℕ, zero, suc, ◌+◌, ◌-◌, ◌*◌, ◌^◌, ◌%◌, ◌<◌, ◌≤◌, ◌==◌, ◌&&◌, ◌||◌, not, nat_lt, List, [], ◌∷◌, ◌++◌, length, slice_index, Bool, true, false, if◌then◌else◌, Option, Some, None}
-use mathlib.Core.Option.{some}
+use mathlib.Core.Option.{some, none}
 use lib.ListN.{get_elem?}
 use Rattle.atomic_table.specs.Table.{State, Me, Step}
 use Rattle.h265_model.specs.declared.entry.Entry.{Entry}
@@ -32,6 +32,15 @@ abbrev pub total_weight : List Knowledge → ℕ
 total_weight [] = 0
 total_weight (v ∷ vs) = v.weight + total_weight vs
 
+-- how often the number a stands in these, and in all of what passes and notes know
+abbrev pub times_in : ℕ → List (ℕ × ℕ) → ℕ
+times_in a [] = 0
+times_in a (x ∷ xs) = (if a == x.0 then 1 else 0) + times_in a xs
+
+abbrev pub times : ℕ → List Knowledge → ℕ
+times a [] = 0
+times a (v ∷ vs) = times_in a v.made + times a vs
+
 abbrev pub longer : List Entry → List Entry → List Entry
 longer xs ys = if nat_lt (length xs) (length ys) then ys else xs
 
@@ -55,6 +64,7 @@ pub record Agree (setting : Setting) (passes : ℕ) (log : List Entry) (mark hel
   pub out : held ≡ true → (v : Knowledge) × (get_elem? views holder ≡ some v) × (0 < v.weight) × (v.holds ≡ true)
   pub marked : mark ≡ true → (j : ℕ) × (v : Knowledge) × (get_elem? views j ≡ some v) × (0 < v.weight) × (v.raised ≡ true)
   pub weighs : total_weight views ≡ 2 ^ 32 * passes
+  pub once : (a : ℕ) → times a views ≡ (if nat_lt a passes then 1 else 0)
 
 pub record Kept {S : Type 0} (setting_of : S → Setting) (history_of : S → List Entry) (mark_of : S → Bool) (s : State (Option S) Knowledge) : Type 0 where
   pub setting : Setting
@@ -67,6 +77,7 @@ pub record Kept {S : Type 0} (setting_of : S → Setting) (history_of : S → Li
   pub one_word : length s.words ≡ 1
   pub one_slot : length s.homes ≡ 1
   pub word : slice_index s.words 0 ≡ 2 * length log + (if held then 1 else 0)
+  pub away : held ≡ true → get_elem? s.homes 0 ≡ some none
   pub at_home : held ≡ false → (x : S) × (get_elem? s.homes 0 ≡ some (some (Some x))) × (setting_of x ≡ setting) × (history_of x ≡ log) × (mark_of x ≡ mark)
   pub agree : Agree setting passes log mark held holder owner s.views
 
