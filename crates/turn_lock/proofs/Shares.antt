@@ -61,13 +61,13 @@ module _ (setting : Setting) (passes : ℕ) (log : List Entry) (mark held : Bool
   }
 
   -- a view is cut in two
-  agree_split : (owner owner' : ℕ → ℕ) (vs : List Knowledge) (j : ℕ) (v v' w : Knowledge) → Agree setting passes log mark held holder owner vs → get_elem? vs j ≡ some v → 0 < v'.weight → v'.weight + w.weight ≡ v.weight → v'.holds ≡ v.holds → v'.raised ≡ v.raised
+  agree_split : (owner owner' : ℕ → ℕ) (vs : List Knowledge) (j : ℕ) (v v' w : Knowledge) → Agree setting passes log mark held holder owner vs → get_elem? vs j ≡ some v → 0 < v'.weight → 0 < w.weight → v'.weight + w.weight ≡ v.weight → v'.holds ≡ v.holds → v'.raised ≡ v.raised
       → ((i : ℕ) (u : Knowledge) → i ≢ j → i < length vs → F owner i u → F owner' i u) → F owner' j v' → F owner' (length vs) w
       → ((a k : ℕ) → made_by a v.made ≡ Some k → ((owner' a ≡ j) × ((k' : ℕ) × (made_by a v'.made ≡ Some k'))) ⊎ ((owner' a ≡ length vs) × (0 < w.weight) × ((k' : ℕ) × (made_by a w.made ≡ Some k'))))
       → ((a : ℕ) → a < passes → owner a ≢ j → owner' a ≡ owner a)
       → ((a : ℕ) → times_in a v'.made + times_in a w.made ≡ times_in a v.made)
       → Agree setting passes log mark held holder owner' (set vs j v' ++ w ∷ [])
-  agree_split owner owner' vs j v v' w a at live weight holds raised others mine new numbers elsewhere shared =
+  agree_split owner owner' vs j v v' w a at live alive weight holds raised others mine new numbers elsewhere shared =
       let long : length (set vs j v') ≡ length vs = length-set vs j v' in
       let vs' : List Knowledge = set vs j v' in
       let keeps_at : (i : ℕ) (u : Knowledge) → i ≢ j → get_elem? vs i ≡ some u → get_elem? (vs' ++ w ∷ []) i ≡ some u = λ i u apart there. at_longer vs' (w ∷ []) i u (set_else vs j i v' apart ∙ there) in
@@ -101,6 +101,13 @@ module _ (setting : Setting) (passes : ℕ) (log : List Entry) (mark held : Bool
             (λ same. let is : o.1 ≡ v = some-injective o.1 v (sym o.2 ∙ (ap (get_elem? vs) same ∙ at)) in (j, v', mine_at, live, raised ∙ (ap (λ (u : Knowledge). u.raised) (sym is) ∙ o.4)))
             (λ apart. (o.0, o.1, keeps_at o.0 o.1 apart o.2, o.3, o.4));
         weighs = let t = total_weight-set vs j v v' at in let u = total_weight-snoc vs' w in let z = a.weighs in omega arith;
+        gone = λ i u there nothing. ⊎_elim
+            (λ (t : get_elem? vs' i ≡ some u). ⊎_elim
+            (λ (s : (i ≡ j) × (v' ≡ u)). let e : v'.weight ≡ u.weight = ap (λ (x : Knowledge). x.weight) s.1 in absurd (omega arith))
+            (λ (s : (i ≢ j) × (get_elem? vs i ≡ some u)). a.gone i u s.1 nothing)
+            (at_set vs j i v' u t))
+            (λ (t : (i ≡ length vs') × (w ≡ u)). let e : w.weight ≡ u.weight = ap (λ (x : Knowledge). x.weight) t.1 in absurd (omega arith))
+            (at_snoc vs' w u i there);
         once = λ n. let t = times-set n vs j v v' at in let u = times-snoc n vs' w in let e = shared n in let z = a.once n in omega arith;
       }
 
@@ -184,6 +191,13 @@ module _ (setting : Setting) (passes : ℕ) (log : List Entry) (mark held : Bool
             (λ same. (j, both, both_at, joint, or_left v.raised w.raised (ap (λ (u : Knowledge). u.raised) (sym (at_j o.0 o.1 o.2 same)) ∙ o.4)))
             (λ other'. (o.0, o.1, keeps_at o.0 o.1 other other' o.2, o.3, o.4)));
         weighs = let t = total_weight-set vs j v both at in let u = total_weight-set vs' i w spent there' in let z = a.weighs in omega arith;
+        gone = λ k u e nothing. ⊎_elim
+            (λ (t : (k ≡ i) × (spent ≡ u)). ap (λ (x : Knowledge). x.made) (sym t.1))
+            (λ (t : (k ≢ i) × (get_elem? vs' k ≡ some u)). ⊎_elim
+            (λ (s : (k ≡ j) × (both ≡ u)). let z : v.weight + w.weight ≡ u.weight = ap (λ (x : Knowledge). x.weight) s.1 in absurd (omega arith))
+            (λ (s : (k ≢ j) × (get_elem? vs k ≡ some u)). a.gone k u s.1 nothing)
+            (at_set vs j k both u t.1))
+            (at_set vs' i k spent u e);
         once = λ n.
             let t = times-set n vs j v both at in
             let u = times-set n vs' i w spent there' in
@@ -223,7 +237,7 @@ module _ {S : Type 0} (setting_of : S → Setting) (history_of : S → List Entr
   pub notes : (id : ℕ) (v : Knowledge) → 2 ≤ v.weight → Splits Rule id v (lighter v) (noted v)
   notes id v heavy s r at =
       let f = r.agree.each id v at (omega arith) in
-      with_views s r r.owner (set s.views id (lighter v) ++ noted v ∷ []) (agree_split r.setting r.passes r.log r.mark r.held r.holder r.owner r.owner s.views id v (lighter v) (noted v) r.agree at (omega arith) (omega arith) refl refl
+      with_views s r r.owner (set s.views id (lighter v) ++ noted v ∷ []) (agree_split r.setting r.passes r.log r.mark r.held r.holder r.owner r.owner s.views id v (lighter v) (noted v) r.agree at (omega arith) (omega arith) (omega arith) refl refl
       (λ i u _ _ g. g)
       record {
         same_setting = f.same_setting;
@@ -284,7 +298,7 @@ module _ {S : Type 0} (setting_of : S → Setting) (history_of : S → List Entr
       let z = none_made-zero b (suc a) m k e' in
       let apart : b ≢ a = λ is. let low = z.1 in omega arith in
       (apart, ap (made_by b) numbers ∙ (made_by-later b (a, 0) (none_made (suc a) m) apart ∙ e')) in
-      with_views s r owner' (set s.views id (without_first v) ++ only_first v ∷ []) (agree_split r.setting r.passes r.log r.mark r.held r.holder r.owner owner' s.views id v (without_first v) (only_first v) r.agree at (omega arith) (omega arith) refl refl
+      with_views s r owner' (set s.views id (without_first v) ++ only_first v ∷ []) (agree_split r.setting r.passes r.log r.mark r.held r.holder r.owner owner' s.views id v (without_first v) (only_first v) r.agree at (omega arith) (omega arith) (omega arith) refl refl
       (λ i u apart inside g. reowned r.setting r.passes r.log r.mark r.held r.holder r.owner owner' i u (λ b k e is. given_else r.owner a len b (λ same. apart (sym is ∙ (ap r.owner same ∙ own_a.0))) ∙ is) g)
       record {
         same_setting = f.same_setting;
@@ -359,12 +373,17 @@ module _ {S : Type 0} (setting_of : S → Setting) (history_of : S → List Entr
           out = λ e. absurd (true≢false (sym e));
           marked = λ e. absurd (true≢false (sym e));
           weighs = omega arith;
+          gone = gone;
           once = λ a. once_each a (none_made-times a 0 passes);
         };
       }
     where
       once_each : (a : ℕ) → times_in a (none_made 0 passes) ≡ (if nat_lt a (0 + passes) then (if nat_lt a 0 then 0 else 1) else 0) → times_in a (none_made 0 passes) + 0 ≡ (if nat_lt a passes then 1 else 0)
       once_each a is = grind (arith, nat_tests, is)
+
+      gone : (j : ℕ) (u : Knowledge) → get_elem? (opening_view (setting_of x) passes ∷ []) j ≡ some u → u.weight ≡ 0 → u.made ≡ []
+      gone zero u e nothing = let z : 2 ^ 32 * passes ≡ u.weight = ap (λ (w : Knowledge). w.weight) (some-injective (opening_view (setting_of x) passes) u e) in absurd (omega arith)
+      gone (suc j) u e nothing = absurd (some-ne-none u (sym e))
 
       each : (j : ℕ) (u : Knowledge) → get_elem? (opening_view (setting_of x) passes ∷ []) j ≡ some u → 0 < u.weight → Fits (setting_of x) passes [] false false 0 (λ _. 0) j u
       each zero u e alive = subst (Fits (setting_of x) passes [] false false 0 (λ _. 0) 0) (some-injective (opening_view (setting_of x) passes) u e) record {

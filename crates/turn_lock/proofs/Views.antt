@@ -76,5 +76,9 @@ module _ (setting : Setting) (passes : ℕ) (owner : ℕ → ℕ) where
         (o.0, s.0, s.1, s.2.0, s.2.1))
         (marked h);
     weighs = weighs;
+    gone = λ i u there nothing. ⊎_elim
+        (λ (t : (i ≡ j) × (w ≡ u)). let e : w.weight ≡ u.weight = ap (λ (x : Knowledge). x.weight) t.1 in absurd (omega arith))
+        (λ (t : (i ≢ j) × (get_elem? vs i ≡ some u)). a.gone i u t.1 nothing)
+        (at_set vs j i w u there);
     once = λ n. let t = times-set n vs j v w at in let e = same_numbers n in let o = a.once n in omega arith;
   }

@@ -1,4 +1,5 @@
 pub mod Listed
+pub mod OneHistory
 pub mod Settings
 pub mod Standing
 pub mod Turns

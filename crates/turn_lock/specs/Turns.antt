@@ -64,6 +64,7 @@ pub record Agree (setting : Setting) (passes : ℕ) (log : List Entry) (mark hel
   pub out : held ≡ true → (v : Knowledge) × (get_elem? views holder ≡ some v) × (0 < v.weight) × (v.holds ≡ true)
   pub marked : mark ≡ true → (j : ℕ) × (v : Knowledge) × (get_elem? views j ≡ some v) × (0 < v.weight) × (v.raised ≡ true)
   pub weighs : total_weight views ≡ 2 ^ 32 * passes
+  pub gone : (j : ℕ) (v : Knowledge) → get_elem? views j ≡ some v → v.weight ≡ 0 → v.made ≡ []
   pub once : (a : ℕ) → times a views ≡ (if nat_lt a passes then 1 else 0)
 
 pub record Kept {S : Type 0} (setting_of : S → Setting) (history_of : S → List Entry) (mark_of : S → Bool) (s : State (Option S) Knowledge) : Type 0 where
