@@ -13,6 +13,7 @@ use Rattle.h265_model.specs.Setting.{Setting}
 use Rattle.h265_model.specs.Turn.{author, entries_by}
 use Rattle.turn_lock.specs.declared.knowledge.Knowledge.{Knowledge}
 use Rattle.turn_lock.specs.Turns.{made_by, one_more, times_in, total_weight, Fits, Agree, Kept, finds, holding, gives_back, gives_entry, OwnExact, Enters, taken, looked, compared, returned, added, Begins}
+use Rattle.turn_lock.specs.Laws.{IsReady}
 use Rattle.turn_lock.proofs.Histories.{begins_same, begins_nil, begins_more, begins_of, entries_by-snoc, by_itself, by_another, one_more-same, one_more-other, times_in-more, some_is, snoc_same, own_more, numbers_more}
 use Rattle.turn_lock.proofs.Views.{total_weight-set, agree_set}
 
@@ -39,7 +40,7 @@ module _ {S : Type 0} (setting_of : S → Setting) (history_of : S → List Entr
   abbrev St : Type 0
   St = State (Option S) Knowledge
 
-  abbrev M : Type 0
+  abbrev pub M : Type 0
   M = Me (Option S) Knowledge
 
   abbrev Rule : St → Type 0
@@ -220,13 +221,8 @@ module _ {S : Type 0} (setting_of : S → Setting) (history_of : S → List Entr
             others fits numbers (λ h. absurd (true≢false (sym h))) marked raised same_numbers;
       }
 
-  -- what a store needs of the state that is given back
-  pub record Ready (me : M) (x : S) : Type 0 where
-    pub live : 0 < me.0.weight
-    pub holds : me.0.holds ≡ true
-    pub carried : me.1 ≡ (0, Some x) ∷ []
-    pub setting : setting_of x ≡ me.0.setting
-    pub mark : me.0.base_mark ≡ true → mark_of x ≡ true
+  abbrev pub Ready : M → S → Type 0
+  Ready = IsReady setting_of history_of mark_of
 
   abbrev first_state : List (ℕ × Option S) → Option S
   first_state [] = None
