@@ -30,3 +30,7 @@ module _ {S : Type 0} where
     pub idle : me.0.holds ≡ false
     pub bare : me.1 ≡ []
     pub nobody : me.0.made ≡ []
+
+-- a pass of this turn that doesn't hold it
+abbrev pub IsAtTurn : TableId → Standing → Type 0
+IsAtTurn turn pass = (pass.table ≡ turn) × (pass.knows.holds ≡ false)
