@@ -1,4 +1,4 @@
-//! Measures the crates. With the name of a group, `units`, `planes` or `scripts`, it says how long each of its works takes; with
+//! Measures the crates. With the name of a group, `units`, `planes` or `scripts`, it says how long each of its works takes at best; with
 //! no word it does each work once, with no clock, and says what was done.
 #![tactic(auto)]
 

@@ -17,7 +17,7 @@ pub trait Work {
     fn round(&mut self, alloc: Global) -> Result<usize, Trouble>;
 }
 
-// So many rounds are timed, after one that isn't.
+// So many rounds are timed, and the shortest one counts.
 const ROUNDS: u32 = 20;
 
 /// Measures a work that handles so many bytes a round.
@@ -34,16 +34,16 @@ pub fn measure<R: Clock + Print, W: Work>(
     if mode == Mode::Once {
         return Ok(());
     }
-    let start = Instant::now(rt)?;
+    let mut shortest = u128::MAX;
     for _ in 0..ROUNDS {
+        let start = Instant::now(rt)?;
         if work.round(alloc)? != count {
             return Err(Trouble::Refused);
         }
+        shortest = shortest.min(start.elapsed(rt)?.as_micros());
     }
-    let micros = start.elapsed(rt)?.as_micros();
-    let micros = if micros == 0 { 1 } else { micros };
-    let each = micros / u128::from(ROUNDS);
-    let speed = bytes as u128 * u128::from(ROUNDS) / micros;
-    println!(rt; "  {each} microseconds a round, {speed} MB/s")?;
+    let micros = shortest.max(1);
+    let speed = bytes as u128 / micros;
+    println!(rt; "  {micros} microseconds, {speed} MB/s")?;
     Ok(())
 }

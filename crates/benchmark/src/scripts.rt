@@ -32,21 +32,31 @@ fn repeated(alloc: Global, line: &[u8], count: usize) -> Result<Vec<u8>, Trouble
     Ok(text)
 }
 
-/// Reads a script of fills and one of the largest blits: 16 MiB each, or 64 KiB where no time is taken.
-pub fn run<R: Clock + Print>(rt: &R, alloc: Global, mode: Mode) -> Result<(), Trouble> {
+fn read_lines<R: Clock + Print>(
+    rt: &R,
+    alloc: Global,
+    mode: Mode,
+    name: &str,
+    line: &[u8],
+) -> Result<(), Trouble> {
     let count = match mode {
         Mode::Once => 1 << 16,
         Mode::Timed => 1 << 24,
     };
-    let fills = repeated(alloc, b"fill 12 345 678 90 a1b2c3\n", count)?;
-    let mut reading = Reading { text: &fills };
-    measure(rt, alloc, mode, "fills", fills.len(), &mut reading)?;
+    let text = repeated(alloc, line, count)?;
+    let mut reading = Reading { text: &text };
+    measure(rt, alloc, mode, name, text.len(), &mut reading)
+}
+
+/// Reads scripts of fills, of the largest and of the shortest blits, and of cuts: 16 MiB each, or 64 KiB where no time is taken.
+pub fn run<R: Clock + Print>(rt: &R, alloc: Global, mode: Mode) -> Result<(), Trouble> {
+    read_lines(rt, alloc, mode, "fills", b"fill 12 345 678 90 a1b2c3\n")?;
     let mut blit = b"blit 0 0 64 64 ".to_vec(alloc)?;
     for _ in 0..4096 {
         blit.extend_from_slice(b"09a5fe")?;
     }
     blit.push(b'\n')?;
-    let blits = repeated(alloc, &blit, count)?;
-    let mut reading = Reading { text: &blits };
-    measure(rt, alloc, mode, "blits", blits.len(), &mut reading)
+    read_lines(rt, alloc, mode, "largest blits", &blit)?;
+    read_lines(rt, alloc, mode, "shortest blits", b"blit 0 0 1 1 09a5fe\n")?;
+    read_lines(rt, alloc, mode, "cuts", b"cut\n")
 }

@@ -1,4 +1,9 @@
 //! What is said of one script.
+ghost use Rattle.std.specs.Prelude.{ℕ, ◌≡◌, List, Ok};
+ghost use Rattle.h265_model.specs.Script.{script_of};
+ghost use Rattle.hex.specs.Hex.{decode_of};
+ghost use Rattle.judge.specs.Verdicts.{IsVerdict};
+
 use h265_model::Cause;
 use paint_script::{ScriptError, read_script, write_script};
 use std::alloc::Global;
@@ -31,17 +36,25 @@ impl Display for Verdict {
     }
 }
 
-/// Reads the script of these hexadecimal digits.
-pub fn judge(alloc: Global, digits: &str) -> Verdict {
-    let Ok(text) = hex::decode(alloc, digits) else {
-        return Verdict::NoScript;
-    };
+/// What is said of the script of these hexadecimal digits.
+pub fn judge(alloc: Global, digits: &str) -> Verdict
+    ensures { (text : List ℕ) → decode_of digits.now ≡ Ok text → IsVerdict (script_of text) result }
+{
+    match hex::decode(alloc, digits) {
+        Ok(text) => judge_text(alloc, &text),
+        Err(_) => Verdict::NoScript,
+    }
+}
+
+fn judge_text(alloc: Global, text: &[u8]) -> Verdict
+    ensures { IsVerdict (script_of text.now) result }
+{
     if text.len() >= 1 << 32 {
         return Verdict::NoScript;
     }
-    match read_script(alloc, &text) {
+    match read_script(alloc, text) {
         Ok(script) => match write_script(alloc, &script) {
-            Ok(written) if written == text => Verdict::Read {
+            Ok(written) if written.as_slice() == text => Verdict::Read {
                 lines: script.lines(),
             },
             Ok(_) => Verdict::SpelledOtherwise,

@@ -245,6 +245,7 @@ fn reads_whole_lines_alone(rt: HostRuntime) -> Result<(), Fail> {
     let mut lines = 0;
     check(&rt, &[], 0, None)?;
     for (k, byte) in text.iter().enumerate() {
+        assert!(rt; lines < 4);
         if *byte == b'\n' {
             lines += 1;
             check(&rt, &text[..=k], lines, None)?;
