@@ -1,0 +1,4 @@
+pub mod Squares
+pub mod Upright
+pub mod Leaning
+pub mod Turned
