@@ -17,8 +17,8 @@ unfolding digits_up_to
 digits_is zero j v most low high = absurd (omega arith)
 digits_is (suc n) j v most low high =
     elim (cases_eq j n) as (λ _. cond (leb (2 ^ n) v) (suc n) (digits_up_to n v) ≡ suc j) [
-      inl same ↦ rw (le-leb (2 ^ n) v (rw (← same) low)) (ap suc (sym same))
-    | inr other ↦ let up : 2 ^ suc j ≤ 2 ^ n = pow-le-pow_right {n = 2} (omega arith) {i = suc j} {j = n} (omega arith) in rw (lt-leb (2 ^ n) v (omega arith)) (digits_is n j v (omega arith) low high)
+      | inl same ↦ rw (le-leb (2 ^ n) v (rw (← same) low)) (ap suc (sym same))
+      | inr other ↦ let up : 2 ^ suc j ≤ 2 ^ n = pow-le-pow_right {n = 2} (omega arith) {i = suc j} {j = n} (omega arith) in rw (lt-leb (2 ^ n) v (omega arith)) (digits_is n j v (omega arith) low high)
     ]
 
 pub level_cost-leading : (d : ℕ) → 0 < d → d < 2 ^ 8 → 17 - 2 * count_leading_zeros 8 d ≡ level_cost (pos d)
@@ -37,8 +37,8 @@ minus_up a b k h = omega (arith, ints)
 pub level_cost-minus : (a b : ℕ) → level_cost (pos ((a - b) + (b - a))) ≡ level_cost (pos a -ℤ pos b)
 level_cost-minus a b =
     elim (cases_lt a b) [
-      inl less ↦ let n : (a - b) + (b - a) ≡ suc (b - a - 1) = omega arith in let z = minus_up a b (b - a - 1) (omega arith) in rw (n, z)
-    | inr more ↦ let n : (a - b) + (b - a) ≡ a - b = omega arith in let z = minus_down a b more in rw (n, z)
+      | inl less ↦ let n : (a - b) + (b - a) ≡ suc (b - a - 1) = omega arith in let z = minus_up a b (b - a - 1) (omega arith) in rw (n, z)
+      | inr more ↦ let n : (a - b) + (b - a) ≡ a - b = omega arith in let z = minus_down a b more in rw (n, z)
     ]
 
 pub differences-more : (xs ys : List ℕ) (i : ℕ) → i < length xs → i < length ys
@@ -48,7 +48,7 @@ differences-more (x ∷ xs) [] i a b = absurd (omega arith)
 differences-more (x ∷ xs) (y ∷ ys) zero a b = refl
 differences-more (x ∷ xs) (y ∷ ys) (suc i) a b =
     let h : differences (take (suc i) xs) (take (suc i) ys) ≡ differences (take i xs) (take i ys) ++ (pos (get_or xs i 0) -ℤ pos (get_or ys i 0)) ∷ [] =
-        rw add-one at (differences-more xs ys i (omega arith) (omega arith)) in
+    rw add-one at (differences-more xs ys i (omega arith) (omega arith)) in
     rw add-one (ap (λ ds. (pos x -ℤ pos y) ∷ ds) h)
 
 pub cost-more : (xs ys : List ℕ) (i sum more : ℕ) → i < length xs → i < length ys → sum ≡ sum_by level_cost (differences (take i xs) (take i ys))

@@ -9,52 +9,64 @@ use Rattle.leaf_cost.specs.Costs.{AreDear, IsCheapest, IsBest, IsBestSoFar}
 pub cheaper_next : (best : Option Best) (bound limit : ℕ) (f : ℕ → ℕ) (modes : List ℕ) (n cost : ℕ) → IsBestSoFar best bound limit f modes n
     → cost ≡ f (get_or modes n 0) → f (get_or modes n 0) < bound
     → IsBestSoFar (Some (record { cost = cost; kind = Intra (get_or modes n 0) })) cost limit f modes (n + 1)
-cheaper_next None bound limit f modes n cost is e less = (refl, record {
-  at = n;
-  within = omega arith;
-  kind = refl;
-  cost = e;
-  below = let b = is.0 in omega arith;
-  before = λ i h. let d = is.1.each i h in let b = is.0 in omega arith;
-  least = λ i h. elim (cases_lt i n) [
-    | inl before ↦ let d = is.1.each i before in let b = is.0 in omega arith
-    | inr last ↦ let s : n ≡ i = omega arith in let q : f (get_or modes n 0) ≡ f (get_or modes i 0) = ap (λ (k : ℕ). f (get_or modes k 0)) s in omega arith
-  ];
-})
-cheaper_next (Some b) bound limit f modes n cost is e less = (refl, record {
-  at = n;
-  within = omega arith;
-  kind = refl;
-  cost = e;
-  below = let c = is.0 in let d = is.1.below in omega arith;
-  before = λ i h. let d = is.1.least i h in let c = is.0 in omega arith;
-  least = λ i h. elim (cases_lt i n) [
-    | inl before ↦ let d = is.1.least i before in let c = is.0 in omega arith
-    | inr last ↦ let s : n ≡ i = omega arith in let q : f (get_or modes n 0) ≡ f (get_or modes i 0) = ap (λ (k : ℕ). f (get_or modes k 0)) s in omega arith
-  ];
-})
+cheaper_next None bound limit f modes n cost is e less = (
+  refl,
+  record {
+    at = n;
+    within = omega arith;
+    kind = refl;
+    cost = e;
+    below = let b = is.0 in omega arith;
+    before = λ i h. let d = is.1.each i h in let b = is.0 in omega arith;
+    least = λ i h. elim (cases_lt i n) [
+      | inl before ↦ let d = is.1.each i before in let b = is.0 in omega arith
+      | inr last ↦ let s : n ≡ i = omega arith in let q : f (get_or modes n 0) ≡ f (get_or modes i 0) = ap (λ (k : ℕ). f (get_or modes k 0)) s in omega arith
+    ];
+  },
+)
+cheaper_next (Some b) bound limit f modes n cost is e less = (
+  refl,
+  record {
+    at = n;
+    within = omega arith;
+    kind = refl;
+    cost = e;
+    below = let c = is.0 in let d = is.1.below in omega arith;
+    before = λ i h. let d = is.1.least i h in let c = is.0 in omega arith;
+    least = λ i h. elim (cases_lt i n) [
+      | inl before ↦ let d = is.1.least i before in let c = is.0 in omega arith
+      | inr last ↦ let s : n ≡ i = omega arith in let q : f (get_or modes n 0) ≡ f (get_or modes i 0) = ap (λ (k : ℕ). f (get_or modes k 0)) s in omega arith
+    ];
+  },
+)
 
 -- the next mode isn't
 pub dear_next : (best : Option Best) (bound limit : ℕ) (f : ℕ → ℕ) (modes : List ℕ) (n : ℕ) → IsBestSoFar best bound limit f modes n
     → bound ≤ f (get_or modes n 0) → IsBestSoFar best bound limit f modes (n + 1)
-dear_next None bound limit f modes n is more = (is.0, record {
-  each = λ i h. elim (cases_lt i n) [
-    | inl before ↦ is.1.each i before
-    | inr last ↦ let b = is.0 in let s : n ≡ i = omega arith in let q : f (get_or modes n 0) ≡ f (get_or modes i 0) = ap (λ (k : ℕ). f (get_or modes k 0)) s in omega arith
-  ];
-})
-dear_next (Some b) bound limit f modes n is more = (is.0, record {
-  at = is.1.at;
-  within = let w = is.1.within in omega arith;
-  kind = is.1.kind;
-  cost = is.1.cost;
-  below = is.1.below;
-  before = is.1.before;
-  least = λ i h. elim (cases_lt i n) [
-    | inl before ↦ is.1.least i before
-    | inr last ↦ let c = is.0 in let s : n ≡ i = omega arith in let q : f (get_or modes n 0) ≡ f (get_or modes i 0) = ap (λ (k : ℕ). f (get_or modes k 0)) s in omega arith
-  ];
-})
+dear_next None bound limit f modes n is more = (
+  is.0,
+  record {
+    each = λ i h. elim (cases_lt i n) [
+      | inl before ↦ is.1.each i before
+      | inr last ↦ let b = is.0 in let s : n ≡ i = omega arith in let q : f (get_or modes n 0) ≡ f (get_or modes i 0) = ap (λ (k : ℕ). f (get_or modes k 0)) s in omega arith
+    ];
+  },
+)
+dear_next (Some b) bound limit f modes n is more = (
+  is.0,
+  record {
+    at = is.1.at;
+    within = let w = is.1.within in omega arith;
+    kind = is.1.kind;
+    cost = is.1.cost;
+    below = is.1.below;
+    before = is.1.before;
+    least = λ i h. elim (cases_lt i n) [
+      | inl before ↦ is.1.least i before
+      | inr last ↦ let c = is.0 in let s : n ≡ i = omega arith in let q : f (get_or modes n 0) ≡ f (get_or modes i 0) = ap (λ (k : ℕ). f (get_or modes k 0)) s in omega arith
+    ];
+  },
+)
 
 pub so_far_all : (best : Option Best) (bound limit : ℕ) (f : ℕ → ℕ) (modes : List ℕ) (n : ℕ) → IsBestSoFar best bound limit f modes n → n ≡ length modes → IsBest best limit f modes
 so_far_all None bound limit f modes n is e = record { each = λ i h. is.1.each i (omega arith) }

@@ -76,7 +76,14 @@ fn best_of(block: &LeafBlock, log2: u32, modes: &[u32], limit: u32) -> Option<Be
 
 /// The cheapest of these modes for the block of side 2^log2 at (x, y), the first of equal ones, where it costs less than
 /// `limit` by the choice rule.
-pub fn best_mode(picture: &Picture, x: u32, y: u32, log2: u32, modes: &[u32], limit: u32) -> Option<Best>
+pub fn best_mode(
+    picture: &Picture,
+    x: u32,
+    y: u32,
+    log2: u32,
+    modes: &[u32],
+    limit: u32,
+) -> Option<Best>
     requires modes { All (λ mode. mode < 35) modes.now }
     requires low { 3 ≤ log2 }
     requires high { log2 ≤ 5 }

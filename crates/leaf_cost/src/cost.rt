@@ -9,7 +9,11 @@ fn size_cost(size: u8) -> u16
     ensures value { result ≡ level_cost (pos size) }
     ensures bound { result ≤ 17 }
 {
-    if size == 0 { 0 } else { 17 - 2 * size.leading_zeros() as u16 }
+    if size == 0 {
+        0
+    } else {
+        17 - 2 * size.leading_zeros() as u16
+    }
 }
 
 /// The cost of the differences between the samples of a block and their prediction, of at most 1024 samples.

@@ -7,3 +7,6 @@ mod plane;
 
 pub use best::{Best, best_mode};
 pub use cost::run_cost;
+
+#[cfg(test)]
+mod tests;

@@ -54,7 +54,13 @@ fn copy_block(picture: &Picture, component: u32, x: u32, y: u32, n: u32, out: &m
 }
 
 /// One component of the block of side 2^log2 at (x, y).
-pub(crate) fn plane_block(picture: &Picture, component: u32, x: u32, y: u32, log2: u32) -> PlaneBlock
+pub(crate) fn plane_block(
+    picture: &Picture,
+    component: u32,
+    x: u32,
+    y: u32,
+    log2: u32,
+) -> PlaneBlock
     requires component { component < 3 }
     requires low { 3 ≤ log2 }
     requires high { log2 ≤ 5 }
@@ -67,7 +73,14 @@ pub(crate) fn plane_block(picture: &Picture, component: u32, x: u32, y: u32, log
     let n = side(log2);
     let _size = picture.size();
     let mut samples = [0u8; 1024];
-    copy_block(picture, component, x, y, n, &mut samples[..(n * n) as usize]);
+    copy_block(
+        picture,
+        component,
+        x,
+        y,
+        n,
+        &mut samples[..(n * n) as usize],
+    );
     let plain = refs(picture, component, x, y, log2);
     let smoothed = filter(&plain);
     PlaneBlock {

@@ -13,12 +13,12 @@ use Rattle.leaf_cost.proofs.best.best_mode.Goals.{then-limit-le8-via-then-limit-
 pub returns-then-limit-le8 : goal.returns-then-limit-le8
 returns-then-limit-le8 c = elim c.then-limit-le8.branch [
   | then-limit-le8-via-then-limit-le8 w ↦ record {
-      each = λ i h.
-          let least : 8 ≤ intra_cost c.args.picture.now.size (picture_of c.args.picture.now) (leaf_with c.args.x c.args.y c.args.log2 (Intra (get_or c.args.modes.now i 0))) =
-          cost_least c.args.picture.now.size (picture_of c.args.picture.now) c.args.x c.args.y c.args.log2 (get_or c.args.modes.now i 0) in
-          let low : c.args.limit ≤ 8 = w.if-limit-le8.true in
-          omega arith;
-    }
+    each = λ i h.
+        let least : 8 ≤ intra_cost c.args.picture.now.size (picture_of c.args.picture.now) (leaf_with c.args.x c.args.y c.args.log2 (Intra (get_or c.args.modes.now i 0))) =
+        cost_least c.args.picture.now.size (picture_of c.args.picture.now) c.args.x c.args.y c.args.log2 (get_or c.args.modes.now i 0) in
+        let low : c.args.limit ≤ 8 = w.if-limit-le8.true in
+        omega arith;
+  }
   | then-limit-le8-via-else-limit-le8+then-is_empty w ↦ record { each = λ i h. let none : length c.args.modes.now ≡ 0 = eqb-true _ _ (sym w.is_empty.ensures ∙ w.if-is_empty.true) in absurd (omega arith) }
 ]
 
