@@ -78,7 +78,8 @@ pick size now x y log2 v (m ∷ modes) best zero within earlier least is below =
     let one : Plan = one_leaf (intra_cost size now (leaf_with x y log2 (Intra m))) (leaf_with x y log2 (Intra m)) in
     let all : AllByRecursion (λ p. v ≤ p.cost) (intra_plans size now x y log2 modes) = all_dear size now x y log2 v modes (λ i h. least (suc i) (omega arith)) in
     let all' : AllByRecursion (λ p. one.cost ≤ p.cost) (intra_plans size now x y log2 modes) = rw is at all in
-    rw (cheaper_second best one (omega arith)) (cheapest_keep one (intra_plans size now x y log2 modes) all' ∙ ap (λ (k : ℕ). one_leaf k (leaf_with x y log2 (Intra m))) (sym is))
+    ap (λ (b : Plan). cheapest b (intra_plans size now x y log2 modes)) (cheaper_second best one (omega arith))
+    ∙ (cheapest_keep one (intra_plans size now x y log2 modes) all' ∙ ap (λ (k : ℕ). one_leaf k (leaf_with x y log2 (Intra m))) (sym is))
 pick size now x y log2 v (m ∷ modes) best (suc at) within earlier least is below =
     let one : Plan = one_leaf (intra_cost size now (leaf_with x y log2 (Intra m))) (leaf_with x y log2 (Intra m)) in
     let more : v < one.cost = earlier 0 (omega arith) in
@@ -100,6 +101,6 @@ best_pick size now x y log2 v (m ∷ modes) last (suc at) within earlier least i
     let one : Plan = one_leaf (intra_cost size now (leaf_with x y log2 (Intra m))) (leaf_with x y log2 (Intra m)) in
     let more : v < one.cost = earlier 0 (omega arith) in
     let p : cheapest one (intra_plans size now x y log2 modes) ≡ one_leaf v (leaf_with x y log2 (Intra (get_or modes at 0))) =
-        pick size now x y log2 v modes one at (omega arith) (λ i h. earlier (suc i) (omega arith)) (λ i h. least (suc i) (omega arith)) is more in
+    pick size now x y log2 v modes one at (omega arith) (λ i h. earlier (suc i) (omega arith)) (λ i h. least (suc i) (omega arith)) is more in
     cheapest_append one (intra_plans size now x y log2 modes) last
     ∙ rw p (cheaper_first (one_leaf v (leaf_with x y log2 (Intra (get_or modes at 0)))) last below)

@@ -1,5 +1,5 @@
 -- What is known of a coding tree unit while its coding units are chosen.
-use Rattle.std.specs.Prelude.{◌≡◌, ◌<◌, ◌≤◌, ◌↔◌, ℕ, suc, ◌+◌, ◌*◌, ◌%◌, ◌^◌, Bool, true, false, List, ◌++◌, map, slice_index_or, Option, Some, None, IsTrue}
+use Rattle.std.specs.Prelude.{◌≡◌, ◌<◌, ◌≤◌, ◌↔◌, ℕ, suc, ◌+◌, ◌*◌, ◌%◌, ◌/◌, ◌^◌, Bool, true, false, List, ◌++◌, map, slice_index_or, Option, Some, None, IsTrue}
 use Rattle.h265_model.specs.declared.leaf.Kind.TheVariants.{Intra}
 use Rattle.h265_model.specs.declared.leaf.Leaf.{Leaf}
 use Rattle.h265_model.specs.declared.line.Rect.{Rect}
@@ -16,7 +16,7 @@ before true p = Some p
 before false p = None
 
 abbrev pub before_of : Task → Option Picture
-before_of t = before t.has_prev (picture_of t.prev.now)
+before_of t = before t.has_last (picture_of t.last.now)
 
 -- two pictures are the same in a coding tree unit
 pub record IsSameTree (p q : Picture) (size : Size) (ctu : ℕ) : Type 0 where
@@ -32,6 +32,11 @@ pub record TellsCopies (copies : List Bool) (has : Bool) (prev now : Picture) (s
   pub each : (i j : ℕ) → i < 4 → j < 4 → x + i * 8 < coded size.w → y + j * 8 < coded size.h
       → IsTrue (slice_index_or copies (4 * j + i) false) ↔ ((has ≡ true) × IsSameBlock prev now (square_at (x + i * 8) (y + j * 8)))
 
+-- the same of the first n squares, where there is a picture before
+pub record TellsFirst (copies : List Bool) (prev now : Picture) (size : Size) (x y n : ℕ) : Type 0 where
+  pub each : (k : ℕ) → k < n → x + k % 4 * 8 < coded size.w → y + k / 4 * 8 < coded size.h
+      → IsTrue (slice_index_or copies k false) ↔ IsSameBlock prev now (square_at (x + k % 4 * 8) (y + k / 4 * 8))
+
 -- the first rows of squares of a block may all be copied
 pub record AreAllCopied (copies : List Bool) (i j side rows : ℕ) : Type 0 where
   pub each : (u v : ℕ) → u < side → v < rows → slice_index_or copies (4 * (j + v) + (i + u)) false ≡ true
@@ -42,7 +47,7 @@ pub record IsTask (t : Task) : Type 0 where
   pub y : t.y < 4096
   pub whole_x : t.x % 32 ≡ 0
   pub whole_y : t.y % 32 ≡ 0
-  pub copies : TellsCopies t.copies t.has_prev (picture_of t.prev.now) (picture_of t.now.now) t.now.now.size t.x t.y
+  pub copies : TellsCopies t.copies t.has_last (picture_of t.last.now) (picture_of t.current.now) t.current.now.size t.x t.y
 
 -- a block of side 2 ^ (3 + depth) in the coding tree unit
 pub record IsPlace (t : Task) (depth x y : ℕ) : Type 0 where

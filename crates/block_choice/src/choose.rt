@@ -14,7 +14,15 @@ use px_plane::{Picture, Steps};
 use std::sync::ledger::Ledger;
 
 // The choice, where it is known which squares are copies.
-fn plan_with(prev: &Picture, has_prev: bool, now: &Picture, effort: u32, x: u32, y: u32, copies: [bool; 16]) -> Leaves
+fn plan_with(
+    prev: &Picture,
+    has_prev: bool,
+    now: &Picture,
+    effort: u32,
+    x: u32,
+    y: u32,
+    copies: [bool; 16],
+) -> Leaves
     requires effort { effort ≤ 2 }
     requires x { x < 4096 }
     requires y { y < 4096 }
@@ -24,9 +32,9 @@ fn plan_with(prev: &Picture, has_prev: bool, now: &Picture, effort: u32, x: u32,
     ensures { result ≡ (plan (before has_prev (picture_of prev.now)) (picture_of now.now) now.now.size effort 2 x y).leaves }
 {
     let task = Task {
-        prev,
-        has_prev,
-        now,
+        last: prev,
+        has_last: has_prev,
+        current: now,
         effort,
         x,
         y,
@@ -42,12 +50,19 @@ fn plan_with(prev: &Picture, has_prev: bool, now: &Picture, effort: u32, x: u32,
 /// `prev` is the picture before, where the picture may copy from it, and `effort` (0 to 2) names the modes that are tried. Where
 /// `touched` is false the unit is the same in both pictures, and nothing is compared; else each position is compared once at most, and each
 /// comparison ticks.
-pub fn plan_ctu<L: Ledger>(prev: Option<&Picture>, now: &Picture, effort: u32, ctu: u32, touched: bool, steps: &mut Steps<L>) -> Leaves
+pub fn plan_ctu<L: Ledger>(
+    prev: Option<&Picture>,
+    now: &Picture,
+    effort: u32,
+    ctu: u32,
+    touched: bool,
+    steps: &mut Steps<L>,
+) -> Leaves
     requires effort { effort ≤ 2 }
     requires ctu { ctu < tile_count now.now.size }
     requires sizes { IfSome prev (λ p. p.now.size ≡ now.now.size) }
     requires untouched { IfSome prev (λ p. touched ≡ false → IsSameTree (picture_of p.now) (picture_of now.now) now.now.size ctu) }
-    ensures choice { MatchOption prev
+    ensures choice { MatchOption prev.entry
         (result ≡ choice None (picture_of now.now) now.now.size effort ctu)
         (λ p. result ≡ choice (Some (picture_of p.now)) (picture_of now.now) now.now.size effort ctu) }
     ensures low { steps.old ≤ steps.new }

@@ -8,7 +8,13 @@ use px_plane::{Picture, Rect, Steps};
 use std::sync::ledger::Ledger;
 
 /// For each square of 8 of the coding tree unit at (x, y), in rows, whether it is in the coded picture and equals that of the picture before.
-pub(crate) fn equal_squares<L: Ledger>(prev: &Picture, now: &Picture, x: u32, y: u32, steps: &mut Steps<L>) -> [bool; 16]
+pub(crate) fn equal_squares<L: Ledger>(
+    prev: &Picture,
+    now: &Picture,
+    x: u32,
+    y: u32,
+    steps: &mut Steps<L>,
+) -> [bool; 16]
     requires sizes { prev.now.size ≡ now.now.size }
     requires x { x < 4096 }
     requires y { y < 4096 }

@@ -14,10 +14,11 @@ use leaf_cost::{Best, best_mode};
 use px_plane::Picture;
 
 /// The coding tree unit at (x, y) of a picture, and the picture before it, where there is one.
+#[derive(Drop)]
 pub(crate) struct Task<'a> {
-    pub prev: &'a Picture,
-    pub has_prev: bool,
-    pub now: &'a Picture,
+    pub last: &'a Picture,
+    pub has_last: bool,
+    pub current: &'a Picture,
     pub effort: u32,
     pub x: u32,
     pub y: u32,
@@ -70,11 +71,11 @@ pub(crate) fn whole_leaf(task: &Task, depth: u32, x: u32, y: u32, limit: u32) ->
     requires task { IsTask task.now }
     requires depth { depth ≤ 2 }
     requires place { IsPlace task.now depth x y }
-    ensures { IsWholeLeaf result limit x y depth (is_whole task.now.now.now.size (2 ^ (3 + depth)) x y)
-        (leaf_plan (before_of task.now) (picture_of task.now.now.now) task.now.now.now.size task.now.effort x y (3 + depth)) }
+    ensures { IsWholeLeaf result limit x y depth (is_whole task.now.current.now.size (2 ^ (3 + depth)) x y)
+        (leaf_plan (before_of task.now) (picture_of task.now.current.now) task.now.current.now.size task.now.effort x y (3 + depth)) }
 {
     let n = side(3 + depth);
-    let size = task.now.size();
+    let size = task.current.size();
     if x + n > (size.w() + 7) / 8 * 8 || y + n > (size.h() + 7) / 8 * 8 {
         return None;
     }
@@ -89,5 +90,5 @@ pub(crate) fn whole_leaf(task: &Task, depth: u32, x: u32, y: u32, limit: u32) ->
             None
         };
     }
-    coded_leaf(task.now, task.effort, x, y, 3 + depth, limit)
+    coded_leaf(task.current, task.effort, x, y, 3 + depth, limit)
 }

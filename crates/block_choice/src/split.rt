@@ -11,20 +11,28 @@ use h265_model::Leaf;
 
 // Whether a place is in the coded picture.
 fn is_inside(task: &Task, x: u32, y: u32) -> bool
-    ensures { result ≡ is_inside task.now.now.now.size x y }
+    ensures { result ≡ is_inside task.now.current.now.size x y }
 {
-    let size = task.now.size();
+    let size = task.current.size();
     x < (size.w() + 7) / 8 * 8 && y < (size.h() + 7) / 8 * 8
 }
 
 // Adds the coding units of the four quarters, each of depth `depth`, where they cost less than `limit` with the split; else it adds none.
-fn plan_split(task: &Task, depth: u32, x: u32, y: u32, limit: u32, leaves: &mut Leaves) -> Option<u32>
+#[cycle(tree)]
+fn plan_split(
+    task: &Task,
+    depth: u32,
+    x: u32,
+    y: u32,
+    limit: u32,
+    leaves: &mut Leaves,
+) -> Option<u32>
     requires task { IsTask task.now }
     requires depth { depth ≤ 1 }
     requires place { IsPlace task.now (depth + 1) x y }
     requires room { length leaves.old + 4 * 4 ^ depth ≤ 16 }
     ensures planned { IsPlanned result limit
-        (split_plan (plan (before_of task.now) (picture_of task.now.now.now) task.now.now.now.size task.now.effort depth) (2 ^ (3 + depth)) x y)
+        (split_plan (plan (before_of task.now) (picture_of task.now.current.now) task.now.current.now.size task.now.effort depth) (2 ^ (3 + depth)) x y)
         leaves.old leaves.new }
     ensures few { length leaves.new ≤ length leaves.old + 4 * 4 ^ depth }
 {
@@ -45,13 +53,21 @@ fn plan_split(task: &Task, depth: u32, x: u32, y: u32, limit: u32, leaves: &mut 
 }
 
 /// Adds the coding units of the block of side 2^(3 + depth) at (x, y) where they cost less than `limit`, and gives their cost; else it adds none.
-pub(crate) fn plan_block(task: &Task, depth: u32, x: u32, y: u32, limit: u32, leaves: &mut Leaves) -> Option<u32>
+#[cycle(tree)]
+pub(crate) fn plan_block(
+    task: &Task,
+    depth: u32,
+    x: u32,
+    y: u32,
+    limit: u32,
+    leaves: &mut Leaves,
+) -> Option<u32>
     requires task { IsTask task.now }
     requires depth { depth ≤ 2 }
     requires place { IsPlace task.now depth x y }
     requires room { length leaves.old + 4 ^ depth ≤ 16 }
     ensures planned { IsPlanned result limit
-        (plan (before_of task.now) (picture_of task.now.now.now) task.now.now.now.size task.now.effort depth x y)
+        (plan (before_of task.now) (picture_of task.now.current.now) task.now.current.now.size task.now.effort depth x y)
         leaves.old leaves.new }
     ensures few { length leaves.new ≤ length leaves.old + 4 ^ depth }
 {

@@ -1,11 +1,10 @@
 -- Costs of levels, and their sums row by row.
-use Rattle.std.proofs.Common.{◌≡◌, ℕ, zero, suc, ◌+◌, ◌*◌, ◌-◌, ◌<◌, ◌≤◌, ◌^◌, cond, leb, List, [], ◌∷◌, ◌++◌, length, get_or, take, sum_by, ℤ, pos, negsuc, ◌-ℤ◌, refl, sym, ap, ◌∙◌, arith, add-one, zero-add, rules, inl, inr}
+use Rattle.std.proofs.Common.{◌≡◌, ℕ, zero, suc, ◌+◌, ◌*◌, ◌-◌, ◌<◌, ◌≤◌, ◌^◌, cond, leb, List, [], ◌∷◌, ◌++◌, length, get_or, take, sum_by, pos, negsuc, ◌-ℤ◌, refl, sym, ap, arith, add-one, zero-add, inl, inr}
 use Rattle.std.proofs.lemmas.Int.{ints}
 use lib.Count.{count_leading_zeros}
-use Rattle.std.proofs.lemmas.Nat.{leading_top, pow_below}
+use Rattle.std.proofs.lemmas.Nat.{leading_top}
 use Rattle.std.proofs.lemmas.Bool.{le-leb, lt-leb, cases_eq, cases_lt}
 use Rattle.std.proofs.Math.Nat.{pow-le-pow_right}
-use Rattle.std.proofs.lemmas.List.{take_more}
 use Rattle.std.proofs.lemmas.List.Sums.{sum_by-append}
 use Rattle.h265_model.specs.Bits.{digits_up_to, digit_count}
 use Rattle.h265_model.specs.Tree.{differences}

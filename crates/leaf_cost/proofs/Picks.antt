@@ -1,9 +1,9 @@
 -- The cheapest of some modes, one after another.
-use Rattle.std.proofs.Common.{◌≡◌, refl, sym, ap, ◌∙◌, ℕ, zero, suc, ◌+◌, ◌<◌, ◌≤◌, List, length, get_or, Option, Some, None, inl, inr, arith}
-use Rattle.std.proofs.lemmas.Bool.{cases_lt, cases_eq}
+use Rattle.std.proofs.Common.{◌≡◌, refl, ap, ◌∙◌, ℕ, ◌+◌, ◌<◌, ◌≤◌, List, length, get_or, Option, Some, None, inl, inr, arith}
+use Rattle.std.proofs.lemmas.Bool.{cases_lt}
 use Rattle.h265_model.specs.declared.leaf.Kind.TheVariants.{Intra}
 use Rattle.leaf_cost.specs.declared.best.Best.{Best}
-use Rattle.leaf_cost.specs.Costs.{AreDear, IsCheapest, IsBest, IsBestSoFar}
+use Rattle.leaf_cost.specs.Costs.{IsBest, IsBestSoFar}
 
 -- the next mode is cheaper
 pub cheaper_next : (best : Option Best) (bound limit : ℕ) (f : ℕ → ℕ) (modes : List ℕ) (n cost : ℕ) → IsBestSoFar best bound limit f modes n

@@ -1,5 +1,5 @@
 -- The cost of a mode, from the three components of a block.
-use Rattle.std.proofs.Common.{◌≡◌, refl, sym, ap, ◌∙◌, ℕ, zero, suc, ◌+◌, ◌*◌, ◌^◌, ◌<◌, ◌≤◌, List, [], ◌∷◌, sum_by, arith}
+use Rattle.std.proofs.Common.{◌≡◌, refl, ap, ◌∙◌, ℕ, ◌+◌, ◌≤◌, [], ◌∷◌, sum_by, arith}
 use Rattle.std.proofs.lemmas.List.Sums.{sum_by-cons}
 use Rattle.h265_model.specs.declared.leaf.Kind.TheVariants.{Intra}
 use Rattle.h265_model.specs.Plain.{Size, Picture, leaf_with, below}
@@ -8,7 +8,7 @@ use Rattle.h265_model.specs.Tree.{levels_in}
 use Rattle.h265_model.specs.Choice.{level_cost, intra_cost}
 use Rattle.leaf_cost.specs.declared.plane.PlaneBlock.{PlaneBlock}
 use Rattle.leaf_cost.specs.declared.best.LeafBlock.{LeafBlock}
-use Rattle.leaf_cost.specs.Costs.{IsPlaneBlock, AreDear, block_levels, block_cost}
+use Rattle.leaf_cost.specs.Costs.{IsPlaneBlock, block_levels, block_cost}
 
 levels_are : (b : PlaneBlock) (size : Size) (p : Picture) (component x y log2 mode : ℕ) → IsPlaneBlock b size p component x y log2
     → block_levels b mode log2 ≡ levels_in size p (leaf_with x y log2 (Intra mode)) component

@@ -1,4 +1,4 @@
-use Rattle.std.proofs.Common.{arith, rules, ◌∙◌, ap, pos}
+use Rattle.std.proofs.Common.{arith, ◌∙◌, ap, pos}
 use Rattle.h265_model.specs.Choice.{level_cost}
 use Rattle.leaf_cost.proofs.Levels.{cost-more}
 use Rattle.leaf_cost.proofs.cost.run_cost.Goals as goal

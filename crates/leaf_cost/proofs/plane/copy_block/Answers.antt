@@ -1,7 +1,6 @@
-use Rattle.std.proofs.Common.{◌≡◌, ◌≤◌, ◌<◌, ℕ, ◌+◌, ◌-◌, ◌*◌, length, map, arith, rules, refl, ◌∙◌}
+use Rattle.std.proofs.Common.{◌≡◌, ◌≤◌, ℕ, ◌+◌, ◌*◌, length, arith, rules, refl, ◌∙◌}
 use Rattle.std.proofs.lemmas.List.{places}
 use Rattle.std.proofs.lemmas.Nat.{mul-le}
-use Rattle.h265_model.specs.Plain.{below}
 use Rattle.px_plane.specs.Planes.{picture_of}
 use Rattle.intra_predict.proofs.Squares.{rows_more, square_is}
 use Rattle.leaf_cost.proofs.plane.copy_block.Goals as goal
