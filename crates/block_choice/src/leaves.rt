@@ -12,14 +12,14 @@ pub struct Leaves {
 }
 
 impl Model for Leaves {
-    ghost use Rattle.std.specs.Prelude.{List, take, ◌≤◌};
+    ghost use Rattle.std.specs.Prelude.{◌≡◌, List, length, take, ◌≤◌};
     ghost use Rattle.h265_model.specs.declared.leaf.Leaf.{Leaf};
 
     ghost Value = { List Leaf };
 
     ghost view = { λ l. take l.count l.leaves };
 
-    ghost invariant = { λ l. l.count ≤ 16 };
+    ghost invariant = { λ l. (l.count ≤ 16) × (length l.leaves ≡ 16) };
 }
 
 impl Leaves {

@@ -4,9 +4,9 @@ use Rattle.block_choice.specs.Plans.{TellsFirst}
 use Rattle.block_choice.proofs.copies.equal_squares.Given as goal
 
 abbrev pub invariant-loop-k : goal.invariant-loop-k
-invariant-loop-k l = record {
+invariant-loop-k g l = record {
   long : length l.copies ≡ 16;
   copies : TellsFirst l.copies (picture_of l.prev) (picture_of l.now) l.now.size l.x l.y l.k;
-  low : l.fn.steps ≤ l.steps;
-  high : l.steps ≤ l.fn.steps + 64 * l.k
+  low : l.initial.steps ≤ l.steps;
+  high : l.steps ≤ l.initial.steps + 64 * l.k
 }

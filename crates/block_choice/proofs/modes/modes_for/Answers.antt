@@ -22,5 +22,14 @@ pub returns-in_default-clause-modes : goal.returns-in_default-clause-modes
 unfolding modes_of
 returns-in_default-clause-modes c = let two : c.args.effort ≡ 2 = omega arith in rw two refl
 
+all_modes : List ℕ
+all_modes =
+    1 ∷ 26 ∷ 10 ∷ 0 ∷ 2 ∷ 3 ∷ 4 ∷ 5 ∷ 6 ∷ 7 ∷ 8 ∷ 9 ∷ 11 ∷ 12 ∷ 13 ∷ 14 ∷ 15 ∷ 16 ∷ 17 ∷ 18 ∷ 19 ∷ 20 ∷ 21 ∷ 22 ∷ 23 ∷ 24 ∷ 25 ∷ 27 ∷ 28 ∷ 29 ∷ 30 ∷ 31 ∷ 32 ∷ 33 ∷ 34 ∷ []
+
+all_small : (k d : ℕ) → k < 35 → get_or all_modes k d < 35
+unfolding all_modes
+all_small k d h = below_each all_modes 35 k d refl h
+
 pub returns-in_default-clause-small : goal.returns-in_default-clause-small
-returns-in_default-clause-small c = λ k d h. below_each _ 35 k d refl h
+unfolding all_modes
+returns-in_default-clause-small c = all_small
