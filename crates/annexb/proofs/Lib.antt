@@ -1,1 +1,5 @@
-pub mod Marks
+pub mod Escapes
+pub mod Payloads
+pub mod ReadBack
+pub mod Starts
+pub mod Streams

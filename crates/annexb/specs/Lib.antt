@@ -1,1 +1,4 @@
 pub mod Escaping
+pub mod Laws
+pub mod Marks
+pub mod Refusals

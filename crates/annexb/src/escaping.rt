@@ -3,6 +3,7 @@ ghost use Rattle.std.specs.Prelude.{◌≡◌, ◌≤◌, ◌<◌, ◌++◌, len
 ghost use Rattle.h265_model.specs.NalUnits.{escape, nal_unit_bytes};
 ghost use Rattle.annexb.specs.Escaping.{from_mark, Begins};
 
+use crate::marks::find_mark;
 use h265_model::NoMemory;
 use std::alloc::Global;
 
@@ -62,24 +63,11 @@ fn append_escaped(out: &mut Vec<u8>, bytes: &[u8]) -> Result<(), NoMemory>
     }
 }
 
-// The place of the first byte that needs a 03 before it, or the length. A byte above 0 rules out three places at once.
+// The place of the first byte that needs a 03 before it, or the length.
 fn next_mark(bytes: &[u8]) -> usize
     ensures within { result ≤ length bytes.now }
     ensures later { result < length bytes.now → 2 ≤ result }
     ensures parts { escape bytes.now ≡ take result bytes.now ++ from_mark (drop result bytes.now) }
 {
-    let mut place = 2;
-    while place < bytes.len() {
-        let byte = bytes[place];
-        if byte > 3 {
-            place += 3;
-        } else if bytes[place - 1] == 0 && bytes[place - 2] == 0 {
-            return place;
-        } else if byte == 0 {
-            place += 1;
-        } else {
-            place += 3;
-        }
-    }
-    bytes.len()
+    find_mark(bytes, 0, 3)
 }

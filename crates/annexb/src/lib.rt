@@ -1,11 +1,19 @@
 //! The byte stream of NAL units (Rec. ITU-T H.265, 7.3.1, 7.4.2 and Annex B), written and read.
 #![tactic(auto)]
 
+mod error;
 mod escaping;
+mod laws;
+mod marks;
+mod payload;
+mod reading;
 mod unit;
 
+pub use error::UnitsError;
 pub use escaping::{append_unit, escape};
-pub use unit::Unit;
+pub use laws::each_unit_is_read_back;
+pub use reading::units;
+pub use unit::{Unit, Units};
 
 #[cfg(test)]
 mod tests;

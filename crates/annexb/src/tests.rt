@@ -1,5 +1,5 @@
 //! Bytes of the standard's grammar, as tables.
-use crate::{append_unit, escape};
+use crate::{UnitsError, append_unit, escape, units};
 use std::test::Fail;
 
 #[test]
@@ -26,5 +26,90 @@ fn appends(rt: HostRuntime) -> Result<(), Fail> {
         out.as_slice(),
         [9, 0, 0, 0, 1, 0x44, 1, 0xC0, 0, 0, 3, 1, 0x80].as_slice()
     );
+    Ok(())
+}
+
+// A stream, and the header and payload of each of its NAL units
+type Read = (&'static [u8], &'static [([u8; 2], &'static [u8])]);
+
+const READ: [Read; 8] = [
+    (&[], &[]),
+    (
+        &[0, 0, 1, 0x44, 1, 0xC0, 0, 0, 1, 0x44, 1],
+        &[([0x44, 1], &[0xC0]), ([0x44, 1], &[])],
+    ),
+    (&[0, 0, 0, 0, 0, 1, 0x44, 1, 0, 0], &[([0x44, 1], &[])]),
+    (
+        &[0, 0, 1, 0x44, 1, 0, 0, 0, 0, 1, 0x42, 1, 5],
+        &[([0x44, 1], &[]), ([0x42, 1], &[5])],
+    ),
+    (&[0, 0, 1, 0x44, 1, 0, 0, 3], &[([0x44, 1], &[0, 0])]),
+    (
+        &[0, 0, 1, 0x44, 1, 0, 0, 3, 0, 0, 3, 0, 5],
+        &[([0x44, 1], &[0, 0, 0, 0, 0, 5])],
+    ),
+    (
+        &[0, 0, 1, 0x44, 1, 0, 0, 3, 1, 0, 3, 0, 0, 4],
+        &[([0x44, 1], &[0, 0, 1, 0, 3, 0, 0, 4])],
+    ),
+    (&[0, 0, 1, 0, 0, 3, 1], &[([0, 0], &[3, 1])]),
+];
+
+#[test]
+fn reads(rt: HostRuntime) -> Result<(), Fail> {
+    for (bytes, want) in READ {
+        let found = units(rt.alloc(), bytes)?;
+        assert_eq!(rt; found.all().len(), want.len());
+        for (unit, (header, rbsp)) in found.all().iter().zip(want) {
+            assert_eq!(rt; unit.header, *header);
+            assert_eq!(rt; unit.rbsp.as_slice(), *rbsp);
+        }
+    }
+    Ok(())
+}
+
+#[test]
+fn refuses(rt: HostRuntime) -> Result<(), Fail> {
+    let table: [(&[u8], u64); 14] = [
+        (&[0x44], 0),
+        (&[0, 0], 2),
+        (&[0, 0, 1, 0x44], 3),
+        (&[0, 0, 1, 0x44, 1, 0, 0, 2], 7),
+        (&[1], 0),
+        (&[0, 1], 1),
+        (&[0, 0, 2], 2),
+        (&[0, 0, 1], 3),
+        (&[0, 0, 1, 0x44, 1, 0, 0, 3, 4], 8),
+        (&[0, 0, 1, 0, 0, 2, 0x44, 1], 5),
+        (&[0, 0, 1, 0, 0, 3, 4], 6),
+        (&[0, 0, 1, 0x44, 1, 0, 0, 3, 2, 0, 0, 3, 5], 12),
+        (&[0, 0, 1, 0x44, 1, 0, 0, 3, 0, 0, 3, 2, 0, 0, 2], 14),
+        (&[0, 0, 1, 0x44, 1, 0, 0, 1, 0x42, 0, 0, 1, 0x44, 1], 8),
+    ];
+    for (bytes, at) in table {
+        let refused = units(rt.alloc(), bytes).err();
+        assert_eq!(rt; refused, Some(UnitsError::BadUnit { at }));
+    }
+    Ok(())
+}
+
+#[test]
+fn reads_back(rt: HostRuntime) -> Result<(), Fail> {
+    let payloads: [&[u8]; 4] = [
+        &[],
+        &[0, 0, 0, 0, 0, 0, 1],
+        &[0, 0, 3, 0, 0, 2, 0, 0, 1, 0x80],
+        &[7, 0, 0, 4, 0, 0, 0xFF],
+    ];
+    let mut out = Vec::new(rt.alloc());
+    for rbsp in payloads {
+        append_unit(&mut out, [0x28, 1], rbsp)?;
+    }
+    let found = units(rt.alloc(), &out)?;
+    assert_eq!(rt; found.all().len(), payloads.len());
+    for (unit, rbsp) in found.all().iter().zip(payloads) {
+        assert_eq!(rt; unit.header, [0x28, 1]);
+        assert_eq!(rt; unit.rbsp.as_slice(), rbsp);
+    }
     Ok(())
 }

@@ -59,10 +59,10 @@ middle_fits false n h = rw (few n h)
 
 -- ---- the whole
 
-regrouped : (front poc middle entries : List Field) (points : Field) → front ++ poc ++ middle ++ points ∷ entries ≡ front ++ (poc ++ ((middle ++ points ∷ []) ++ entries))
+pub regrouped : (front poc middle entries : List Field) (points : Field) → front ++ poc ++ middle ++ points ∷ entries ≡ front ++ (poc ++ ((middle ++ points ∷ []) ++ entries))
 regrouped front poc middle entries points = simp append_assoc
 
-in_parts : (front poc middle entries : List Field) (rest : List Bool) →
+pub in_parts : (front poc middle entries : List Field) (rest : List Bool) →
     fields_bits (front ++ (poc ++ (middle ++ entries))) ++ rest ≡ fields_bits front ++ (fields_bits poc ++ (fields_bits middle ++ (fields_bits entries ++ rest)))
 in_parts front poc middle entries rest = simp (fields_bits-append, append_assoc)
 

@@ -1,4 +1,5 @@
 pub mod HeadLaws
+pub mod HeadSpellingLaws
 pub mod ParamLaws
 pub mod SpellingLaws
 pub mod ParamSpellingLaws

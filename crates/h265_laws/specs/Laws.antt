@@ -53,6 +53,12 @@ EachHeadIsRead =
     (head : Head) (rest : List ℕ) → IsHead head →
     read_head (bytes (head_bits head) ++ rest) head.idr (length head.offsets + 1) ≡ Ok (head, length (bytes (head_bits head)))
 
+-- and nothing else is read as that header: bytes that are read as the header of a picture of so many rows begin with its bytes
+abbrev pub EachHeadIsSpelled : Type 0
+EachHeadIsSpelled =
+    (rbsp : List ℕ) (idr : Bool) (rows : ℕ) (head : Head) (n : ℕ) → AreBytes rbsp → 0 < rows → read_head rbsp idr rows ≡ Ok (head, n) →
+    (head.idr ≡ idr) × (length head.offsets + 1 ≡ rows) × (take n rbsp ≡ bytes (head_bits head))
+
 -- ---- slice data
 
 -- an engine between two lists of items, with the contexts that the code names there

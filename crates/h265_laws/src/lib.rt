@@ -1,7 +1,7 @@
 //! Laws over the definitions of `h265_model`. Each function does nothing: its clause is the law.
 #![tactic(auto)]
 
-ghost use Rattle.h265_laws.specs.Laws.{EachCodeIsRead, EachNalUnitIsRead, EachSizeIsRead, EachSizeIsSpelled, EachHeadIsRead, EachEscapeIsUndone, EachSubstreamIsCut, EachListIsReadBack, EachTruncatedCodeIsRead, EachFixedCodeIsRead, EachGolombCodeIsRead, EachRemainingLevelIsRead, EachModeIsRead, EachBlockIsRead, EachLeafIsRead, EachTreeIsRead, EachRowIsRead, EachChoiceIsLawful, EachPictureIsSource, EachRowIsWellFormed, EachSliceIsRead, EachPictureIsRebuilt, EachRasterIsCropped, EachPictureIsRaster, EachStreamIsDecoded, EachPrefixIsKept, EachScheduleGivesTheBytes};
+ghost use Rattle.h265_laws.specs.Laws.{EachCodeIsRead, EachNalUnitIsRead, EachSizeIsRead, EachSizeIsSpelled, EachHeadIsRead, EachHeadIsSpelled, EachEscapeIsUndone, EachSubstreamIsCut, EachListIsReadBack, EachTruncatedCodeIsRead, EachFixedCodeIsRead, EachGolombCodeIsRead, EachRemainingLevelIsRead, EachModeIsRead, EachBlockIsRead, EachLeafIsRead, EachTreeIsRead, EachRowIsRead, EachChoiceIsLawful, EachPictureIsSource, EachRowIsWellFormed, EachSliceIsRead, EachPictureIsRebuilt, EachRasterIsCropped, EachPictureIsRaster, EachStreamIsDecoded, EachPrefixIsKept, EachScheduleGivesTheBytes};
 
 /// Each Exp-Golomb code is read back.
 pub fn each_code_is_read()
@@ -26,6 +26,11 @@ pub fn each_size_is_spelled()
 /// Each slice header is read back.
 pub fn each_head_is_read()
     ensures { EachHeadIsRead }
+{}
+
+/// Nothing but its spelling is read as a slice header.
+pub fn each_head_is_spelled()
+    ensures { EachHeadIsSpelled }
 {}
 
 /// Bytes are read back from after their emulation prevention.

@@ -238,6 +238,24 @@ fn reads_the_examples(rt: HostRuntime) -> Result<(), Fail> {
     Ok(())
 }
 
+// A script that ends after any of its bytes is read where that is the end of a line, and else its last line has no line feed.
+#[test]
+fn reads_whole_lines_alone(rt: HostRuntime) -> Result<(), Fail> {
+    let text: &[u8] = b"fill 1 2 3 4 a0b0c0\nblit 0 0 1 2 000000ffffff\ncut\n";
+    let mut lines = 0;
+    check(&rt, &[], 0, None)?;
+    for (k, byte) in text.iter().enumerate() {
+        if *byte == b'\n' {
+            lines += 1;
+            check(&rt, &text[..=k], lines, None)?;
+        } else {
+            check(&rt, &text[..=k], lines + 1, Some(Cause::NoLineFeed))?;
+        }
+    }
+    assert_eq!(rt; lines, 3);
+    Ok(())
+}
+
 // The byte, so many times.
 fn filled(rt: &impl AllocGlobal, byte: u8, count: usize) -> Result<Vec<u8>, Fail> {
     Ok(vec![in rt.alloc(); byte; count]?)

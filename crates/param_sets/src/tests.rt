@@ -1,6 +1,6 @@
 //! Parameter sets of sizes, as an independent model of the format writes them.
 use crate::{BadParam, Params, read_params, write_params};
-use annexb::Unit;
+use annexb::{Unit, units};
 use h265_model::{Bytes, NoMemory};
 use px_plane::Size;
 use std::alloc::Global;
@@ -65,6 +65,21 @@ fn writes_sets(rt: HostRuntime) -> Result<(), Fail> {
         want.extend_from_slice(middle)?;
         want.extend_from_slice(BACK)?;
         assert_eq!(rt; out.as_slice(), want.as_slice());
+    }
+    Ok(())
+}
+
+#[test]
+fn reads_back(rt: HostRuntime) -> Result<(), Fail> {
+    for (w, h, middle) in SIZES {
+        let mut stream = FRONT.to_vec(rt.alloc())?;
+        stream.extend_from_slice(middle)?;
+        stream.extend_from_slice(BACK)?;
+        let found = units(rt.alloc(), &stream)?;
+        assert!(rt; found.all().len() == 3);
+        let params = read_params(found.all())?;
+        assert_eq!(rt; params.size.w(), w);
+        assert_eq!(rt; params.size.h(), h);
     }
     Ok(())
 }
@@ -190,7 +205,7 @@ const CHANGES: [(usize, usize, u32); 110] = [
     (2, 32, 31),
 ];
 
-fn units(alloc: Global, sets: [&[u8]; 3], headers: [u8; 3]) -> Result<[Unit; 3], NoMemory> {
+fn three_units(alloc: Global, sets: [&[u8]; 3], headers: [u8; 3]) -> Result<[Unit; 3], NoMemory> {
     let [vps, sps, pps] = sets;
     let [first, second, third] = headers;
     let vps = Bytes::from_vec(vps.to_vec(alloc)?);
@@ -214,12 +229,10 @@ fn units(alloc: Global, sets: [&[u8]; 3], headers: [u8; 3]) -> Result<[Unit; 3],
 
 #[test]
 fn reads_sets(rt: HostRuntime) -> Result<(), Fail> {
-    let sets = units(rt.alloc(), SETS, [0x40, 0x42, 0x44])?;
+    let sets = three_units(rt.alloc(), SETS, [0x40, 0x42, 0x44])?;
     let params = read_params(&sets)?;
     assert_eq!(rt; params.size.w(), 33);
     assert_eq!(rt; params.size.h(), 17);
-    let headers = units(rt.alloc(), SETS, [0x40, 0x42, 0x42])?;
-    assert_eq!(rt; read_params(&headers), Err(BadParam { set: 2, field: 0 }));
     Ok(())
 }
 
@@ -232,7 +245,7 @@ fn names_fields(rt: HostRuntime) -> Result<(), Fail> {
         changed[bit / 8] ^= 0x80 >> (bit % 8);
         let mut sets = SETS;
         sets[set] = changed.as_slice();
-        let sets = units(rt.alloc(), sets, [0x40, 0x42, 0x44])?;
+        let sets = three_units(rt.alloc(), sets, [0x40, 0x42, 0x44])?;
         assert_eq!(rt;
             read_params(&sets),
             Err(BadParam {
@@ -241,5 +254,108 @@ fn names_fields(rt: HostRuntime) -> Result<(), Fail> {
             })
         );
     }
+    Ok(())
+}
+
+#[test]
+fn names_headers(rt: HostRuntime) -> Result<(), Fail> {
+    let table = [
+        ([0x42, 0x42, 0x44], 0),
+        ([0x40, 0x40, 0x44], 1),
+        ([0x40, 0x42, 0x42], 2),
+        ([0x28, 0x28, 0x28], 0),
+    ];
+    for (headers, set) in table {
+        let sets = three_units(rt.alloc(), SETS, headers)?;
+        assert_eq!(rt; read_params(&sets), Err(BadParam { set, field: 0 }));
+    }
+    Ok(())
+}
+
+// The sequence parameter set of 33x17 that ends after so many bits, with zeros up to the byte: after fewer than these bits
+// the field is the one that is named.
+const CUTS: [(usize, u32); 47] = [
+    (1, 1),
+    (8, 3),
+    (102, 4),
+    (105, 5),
+    (108, 6),
+    (122, 8),
+    (131, 9),
+    (132, 15),
+    (133, 11),
+    (137, 12),
+    (141, 13),
+    (145, 14),
+    (149, 15),
+    (150, 16),
+    (155, 17),
+    (156, 18),
+    (158, 19),
+    (160, 20),
+    (161, 21),
+    (162, 22),
+    (165, 23),
+    (166, 24),
+    (169, 25),
+    (172, 26),
+    (173, 27),
+    (177, 31),
+    (181, 32),
+    (185, 33),
+    (186, 34),
+    (189, 35),
+    (190, 36),
+    (193, 37),
+    (195, 38),
+    (197, 39),
+    (198, 40),
+    (199, 41),
+    (201, 43),
+    (203, 45),
+    (206, 48),
+    (209, 49),
+    (210, 50),
+    (211, 51),
+    (219, 52),
+    (227, 53),
+    (233, 54),
+    (241, 60),
+    (244, 63),
+];
+
+#[test]
+fn names_where_it_ends(rt: HostRuntime) -> Result<(), Fail> {
+    let mut start = 0;
+    for (end, field) in CUTS {
+        for bits in start..end {
+            let whole = bits / 8;
+            let part = bits % 8;
+            assert!(rt; whole < SETS[1].len());
+            let mut set = SETS[1][..whole].to_vec(rt.alloc())?;
+            if part > 0 {
+                set.push(SETS[1][whole] & !(0xFF >> part))?;
+            }
+            let mut sets = SETS;
+            sets[1] = set.as_slice();
+            let sets = three_units(rt.alloc(), sets, [0x40, 0x42, 0x44])?;
+            assert_eq!(rt; read_params(&sets), Err(BadParam { set: 1, field }));
+        }
+        start = end;
+    }
+    assert_eq!(rt; start, 244);
+    Ok(())
+}
+
+// A picture of 4096 by 4096, of which all sides are lawful and the area isn't.
+const LARGE: &[u8] =
+    b"\x01\x24\x08\x00\x00\x00\xbe\x08\x00\x00\x00\x00\x9c\x90\x00\x10\x01\x00\x08\x00\xb2\xd7\x72\x62\xef\x74\xb8\x9b\x80\x86\x80\x00\x40";
+
+#[test]
+fn names_the_area(rt: HostRuntime) -> Result<(), Fail> {
+    let mut sets = SETS;
+    sets[1] = LARGE;
+    let sets = three_units(rt.alloc(), sets, [0x40, 0x42, 0x44])?;
+    assert_eq!(rt; read_params(&sets), Err(BadParam { set: 1, field: 10 }));
     Ok(())
 }

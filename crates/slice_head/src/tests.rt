@@ -74,3 +74,55 @@ fn names_fields(rt: HostRuntime) -> Result<(), Fail> {
     }
     Ok(())
 }
+
+// A header that ends after so many bits, with zeros up to the byte: after fewer than these bits the field is the one that is
+// named.
+const P_CUTS: &[(usize, u32)] = &[
+    (1, 1),
+    (2, 3),
+    (4, 4),
+    (9, 5),
+    (14, 6),
+    (20, 8),
+    (21, 9),
+    (22, 10),
+    (23, 13),
+];
+
+const IDR_CUTS: &[(usize, u32)] = &[
+    (1, 1),
+    (3, 3),
+    (6, 4),
+    (7, 9),
+    (9, 10),
+    (17, 11),
+    (49, 12),
+    (54, 13),
+];
+
+#[test]
+fn names_where_it_ends(rt: HostRuntime) -> Result<(), Fail> {
+    let p_head: &[u8] = &[0xD0, 0x0C, 0x5E];
+    let idr_head: &[u8] = &[0xAE, 0x81, 0, 0, 1, 0x20, 0x1C];
+    for (idr, rows, head, cuts) in [(false, 1, p_head, P_CUTS), (true, 2, idr_head, IDR_CUTS)] {
+        assert!(rt; rows > 0);
+        let mut start = 0;
+        for (end, want) in cuts {
+            for bits in start..*end {
+                let whole = bits / 8;
+                let part = bits % 8;
+                assert!(rt; whole < head.len());
+                let mut bytes = head[..whole].to_vec(rt.alloc())?;
+                if part > 0 {
+                    bytes.push(head[whole] & !(0xFF >> part))?;
+                }
+                match read_head(rt.alloc(), &bytes, idr, rows) {
+                    Err(HeadError::BadHead { field }) => assert_eq!(rt; field, *want),
+                    _ => assert!(rt; false, "it was read"),
+                }
+            }
+            start = *end;
+        }
+    }
+    Ok(())
+}
