@@ -24,7 +24,7 @@ cheapest_keep : (best : Plan) (plans : List Plan) → AllByRecursion (λ p. best
 cheapest_keep best [] all = refl
 cheapest_keep best (p ∷ plans) all = rw (cheaper_first best p all.0) (cheapest_keep best plans all.1)
 
-cheaper_least : (k : ℕ) (a b : Plan) → k ≤ a.cost → k ≤ b.cost → k ≤ (cheaper a b).cost
+pub cheaper_least : (k : ℕ) (a b : Plan) → k ≤ a.cost → k ≤ b.cost → k ≤ (cheaper a b).cost
 cheaper_least k a b ha hb = elim (cases_lt b.cost a.cost) [
   | inl less ↦ rw (cheaper_second a b less) hb
   | inr more ↦ rw (cheaper_first a b more) ha

@@ -1,8 +1,9 @@
 -- Squares of two pictures, and blocks that are made of them.
-use Rattle.std.proofs.Common.{◌≡◌, refl, sym, ap, ◌∙◌, ℕ, zero, suc, ◌+◌, ◌*◌, ◌-◌, ◌/◌, ◌%◌, ◌^◌, ◌<◌, ◌≤◌, Bool, true, false, List, [], ◌∷◌, get_or, map, arith, inl, inr}
+use Rattle.std.proofs.Common.{◌≡◌, refl, sym, ap, ◌∙◌, ℕ, zero, suc, ◌+◌, ◌*◌, ◌-◌, ◌/◌, ◌%◌, ◌^◌, ◌<◌, ◌≤◌, Bool, true, false, List, [], ◌∷◌, get_or, set, length, map, arith, inl, inr}
 use Rattle.std.specs.Prelude.{◌==◌, ◌&&◌, ◌↔◌, IsTrue, Option, Some, None}
 use Rattle.std.specs.List.{list_all}
-use Rattle.std.proofs.lemmas.Bool.{and_parts, and_from, eqb-true, eq-eqb, both_ways, false≢true}
+use Rattle.std.proofs.lemmas.Bool.{and_parts, and_from, eqb-true, eq-eqb, both_ways, false≢true, cases_eq}
+use Rattle.std.proofs.lemmas.List.{get_or-set_same, get_or-set_other}
 use Rattle.h265_model.proofs.Squares.{same_places, at_places}
 use Rattle.h265_model.specs.declared.leaf.Kind.TheVariants.{Skip}
 use Rattle.h265_model.specs.Plain.{Size, Picture, coded, leaf_with, below}
@@ -10,7 +11,7 @@ use Rattle.h265_model.specs.Predict.{square}
 use Rattle.h265_model.specs.Tree.{samples_in}
 use Rattle.h265_model.specs.Choice.{Plan, same, is_copy, skips, one_leaf}
 use Rattle.px_plane.specs.Blocks.{IsSameBlock}
-use Rattle.block_choice.specs.Plans.{before, TellsCopies, AreAllCopied, square_at}
+use Rattle.block_choice.specs.Plans.{before, TellsCopies, TellsFirst, AreAllCopied, square_at}
 
 same_refl : (xs : List ℕ) → same xs xs ≡ true
 same_refl [] = refl
@@ -107,3 +108,41 @@ skips_no copies true p q size tx ty x y i j side log2 tells ex ey en hi hj hx hy
     go : (b : Bool) → is_copy p q (leaf_with x y log2 Skip) ≡ b → skips (Some p) q (leaf_with x y log2 Skip) ≡ []
     go true e = absurd (none (same_squares copies p q size tx ty x y i j side (2 ^ log2) tells ex ey en hi hj hx hy (from_copy p q x y log2 e)))
     go false e = rw e refl
+
+-- ---- one more square is compared
+
+pub first_none : (copies : List Bool) (p q : Picture) (size : Size) (x y : ℕ) → TellsFirst copies p q size x y 0
+first_none copies p q size x y = record { each = λ k h. absurd (omega arith) }
+
+pub first_more : (copies : List Bool) (p q : Picture) (size : Size) (x y n : ℕ) (b : Bool) → TellsFirst copies p q size x y n → n < length copies
+    → IsTrue b ↔ IsSameBlock p q (square_at (x + n % 4 * 8) (y + n / 4 * 8)) → TellsFirst (set copies n b) p q size x y (n + 1)
+first_more copies p q size x y n b known within is = record { each = at_each }
+  where
+    at_each : (k : ℕ) → k < n + 1 → x + k % 4 * 8 < coded size.w → y + k / 4 * 8 < coded size.h
+        → IsTrue (get_or (set copies n b) k false) ↔ IsSameBlock p q (square_at (x + k % 4 * 8) (y + k / 4 * 8))
+    at_each k h hx hy = elim (cases_eq k n) [
+      | inl same ↦ rw (same, get_or-set_same copies n b false within) is
+      | inr other ↦ rw (get_or-set_other copies n k b false other) (known.each k (omega arith) hx hy)
+    ]
+
+pub first_beyond : (copies : List Bool) (p q : Picture) (size : Size) (x y n : ℕ) → TellsFirst copies p q size x y n
+    → (x + n % 4 * 8 < coded size.w → y + n / 4 * 8 < coded size.h → ⊥) → TellsFirst copies p q size x y (n + 1)
+first_beyond copies p q size x y n known beyond = record { each = at_each }
+  where
+    at_each : (k : ℕ) → k < n + 1 → x + k % 4 * 8 < coded size.w → y + k / 4 * 8 < coded size.h
+        → IsTrue (get_or copies k false) ↔ IsSameBlock p q (square_at (x + k % 4 * 8) (y + k / 4 * 8))
+    at_each k h hx hy = elim (cases_eq k n) [
+      | inl same ↦ absurd (beyond (rw same at hx) (rw same at hy))
+      | inr other ↦ known.each k (omega arith) hx hy
+    ]
+
+pub tells_from : (copies : List Bool) (p q : Picture) (size : Size) (x y : ℕ) → TellsFirst copies p q size x y 16 → TellsCopies copies true p q size x y
+tells_from copies p q size x y first = record { each = at_each }
+  where
+    at_each : (i j : ℕ) → i < 4 → j < 4 → x + i * 8 < coded size.w → y + j * 8 < coded size.h
+        → IsTrue (get_or copies (4 * j + i) false) ↔ ((true ≡ true) × IsSameBlock p q (square_at (x + i * 8) (y + j * 8)))
+    at_each i j hi hj hx hy =
+        let ei : (4 * j + i) % 4 ≡ i = omega arith in
+        let ej : (4 * j + i) / 4 ≡ j = omega arith in
+        let t = rw (ei, ej) at (first.each (4 * j + i) (omega arith) (rw ei hx) (rw ej hy)) in
+        (λ h. (refl, t.0 h), λ h. t.1 h.1)

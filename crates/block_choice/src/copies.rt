@@ -34,7 +34,7 @@ pub(crate) fn equal_squares<L: Ledger>(
             h: 8,
         };
         if rect.x < w && rect.y < h {
-            copies[k as usize] = now.block_equal(prev, rect, steps);
+            copies[k as usize] = prev.block_equal(now, rect, steps);
         }
     }
     copies

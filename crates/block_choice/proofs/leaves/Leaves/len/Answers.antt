@@ -7,4 +7,4 @@ pub returns-clause-value : goal.returns-clause-value
 returns-clause-value c =
     let most : c.self.inside.count ≤ 16 = c.self.invariant.0 in
     let long : length c.self.inside.leaves ≡ 16 = c.self.invariant.1 in
-    sym (ap (λ (l : List Leaf). length l) c.self.view_is ∙ length-take-le c.self.inside.count c.self.inside.leaves (omega arith))
+    sym (ap (λ (l : List Leaf). length l) (sym c.self.view_is) ∙ length-take-le c.self.inside.count c.self.inside.leaves (omega arith))
