@@ -1,8 +1,8 @@
 -- The plan of one coding unit.
-use Rattle.std.proofs.Common.{◌≡◌, refl, sym, ap, ◌∙◌, ℕ, ◌+◌, ◌*◌, ◌/◌, ◌%◌, ◌^◌, ◌<◌, ◌≤◌, Bool, true, false, List, [], ◌∷◌, get_or, arith, inl, inr}
-use Rattle.std.specs.Prelude.{Option, Some, None, ◌&&◌, nat_le}
+use Rattle.std.proofs.Common.{◌≡◌, refl, ◌∙◌, ℕ, ◌+◌, ◌*◌, ◌/◌, ◌^◌, ◌≤◌, Bool, true, [], ◌∷◌, get_or, arith, inl, inr}
+use Rattle.std.specs.Prelude.{Option, Some, None}
 use Rattle.std.proofs.lemmas.Bool.{and_from, le-leb, cases_eq}
-use Rattle.h265_model.specs.declared.leaf.Kind.TheVariants.{Intra, Pcm, Skip}
+use Rattle.h265_model.specs.declared.leaf.Kind.TheVariants.{Pcm, Skip}
 use Rattle.h265_model.specs.Plain.{Size, Picture, coded, leaf_with}
 use Rattle.h265_model.specs.Tree.{is_whole}
 use Rattle.h265_model.specs.Choice.{Plan, best_of, one_leaf, pcm_cost, leaf_plan, modes_of, skips}

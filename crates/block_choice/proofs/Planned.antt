@@ -1,9 +1,7 @@
 -- The plan of a block: one coding unit, or those of its quarters.
-use Rattle.std.proofs.Common.{◌≡◌, refl, sym, ap, ◌∙◌, ℕ, zero, suc, ◌+◌, ◌*◌, ◌-◌, ◌/◌, ◌%◌, ◌^◌, ◌<◌, ◌≤◌, Bool, true, false, cond, not, List, [], ◌∷◌, ◌++◌, arith, append_assoc, pow-suc, inl, inr}
-use Rattle.std.specs.Prelude.{Option, Some, None, ◌&&◌, nat_le}
-use Rattle.std.proofs.lemmas.Bool.{false≢true, le-leb, and_from, and_parts, ltb-true, cases_lt}
-use Rattle.std.proofs.lemmas.List.{append-nil}
-
+use Rattle.std.proofs.Common.{◌≡◌, refl, ap, ◌∙◌, ℕ, zero, suc, ◌+◌, ◌*◌, ◌-◌, ◌/◌, ◌%◌, ◌^◌, ◌<◌, ◌≤◌, Bool, true, false, cond, not, List, ◌++◌, arith, pow-suc, inl, inr}
+use Rattle.std.specs.Prelude.{Option, Some, None}
+use Rattle.std.proofs.lemmas.Bool.{false≢true, and_parts, ltb-true, cases_lt}
 use Rattle.h265_model.specs.declared.leaf.Kind.TheVariants.{Pcm, Skip}
 use Rattle.h265_model.specs.declared.leaf.Leaf.{Leaf}
 use Rattle.h265_model.specs.Plain.{Size, Picture, coded, leaf_with}

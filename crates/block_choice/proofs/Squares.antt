@@ -1,15 +1,13 @@
 -- Squares of two pictures, and blocks that are made of them.
-use Rattle.std.proofs.Common.{◌≡◌, refl, sym, ap, ◌∙◌, ℕ, zero, suc, ◌+◌, ◌*◌, ◌-◌, ◌/◌, ◌%◌, ◌^◌, ◌<◌, ◌≤◌, Bool, true, false, List, [], ◌∷◌, get_or, set, length, map, arith, inl, inr}
-use Rattle.std.specs.Prelude.{◌==◌, ◌&&◌, ◌↔◌, IsTrue, Option, Some, None}
-use Rattle.std.specs.List.{list_all}
-use Rattle.std.proofs.lemmas.Bool.{and_parts, and_from, eqb-true, eq-eqb, both_ways, false≢true, cases_eq}
+use Rattle.std.proofs.Common.{◌≡◌, refl, sym, ap, ◌∙◌, ℕ, zero, suc, ◌+◌, ◌*◌, ◌/◌, ◌%◌, ◌^◌, ◌<◌, ◌≤◌, Bool, true, false, List, [], ◌∷◌, get_or, set, length, arith, inl, inr}
+use Rattle.std.specs.Prelude.{◌==◌, ◌↔◌, IsTrue, Some}
+use Rattle.std.proofs.lemmas.Bool.{and_parts, and_from, eqb-true, eq-eqb, false≢true, cases_eq}
 use Rattle.std.proofs.lemmas.List.{get_or-set_same, get_or-set_other}
 use Rattle.h265_model.proofs.Squares.{same_places, at_places}
 use Rattle.h265_model.specs.declared.leaf.Kind.TheVariants.{Skip}
-use Rattle.h265_model.specs.Plain.{Size, Picture, coded, leaf_with, below}
-use Rattle.h265_model.specs.Predict.{square}
+use Rattle.h265_model.specs.Plain.{Size, Picture, coded, leaf_with}
 use Rattle.h265_model.specs.Tree.{samples_in}
-use Rattle.h265_model.specs.Choice.{Plan, same, is_copy, skips, one_leaf}
+use Rattle.h265_model.specs.Choice.{same, is_copy, skips, one_leaf}
 use Rattle.px_plane.specs.Blocks.{IsSameBlock}
 use Rattle.block_choice.specs.Plans.{before, TellsCopies, TellsFirst, AreAllCopied, square_at}
 
@@ -80,13 +78,15 @@ same_squares copies p q size tx ty x y i j side n tells ex ey en hi hj hx hy is 
   where
     at_each : (u v : ℕ) → u < side → v < side → get_or copies (4 * (j + v) + (i + u)) false ≡ true
     at_each u v hu hv =
-        (tells.each (i + u) (j + v) (omega arith) (omega arith) (omega arith) (omega arith)).1
-        (refl, record {
-          each = λ c a b hc ha hb.
-              let column : x + (u * 8 + a) ≡ tx + (i + u) * 8 + a = omega arith in
-              let row : y + (v * 8 + b) ≡ ty + (j + v) * 8 + b = omega arith in
-              rw (← column, ← row) (is.each c (u * 8 + a) (v * 8 + b) hc (omega arith) (omega arith));
-        })
+        (tells.each (i + u) (j + v) (omega arith) (omega arith) (omega arith) (omega arith)).1 (
+          refl,
+          record {
+            each = λ c a b hc ha hb.
+                let column : x + (u * 8 + a) ≡ tx + (i + u) * 8 + a = omega arith in
+                let row : y + (v * 8 + b) ≡ ty + (j + v) * 8 + b = omega arith in
+                rw (← column, ← row) (is.each c (u * 8 + a) (v * 8 + b) hc (omega arith) (omega arith));
+          },
+        )
 
 -- the plans that copy
 pub skips_yes : (copies : List Bool) (has : Bool) (p q : Picture) (size : Size) (tx ty x y i j side log2 : ℕ) → TellsCopies copies has p q size tx ty

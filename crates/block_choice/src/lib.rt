@@ -10,3 +10,6 @@ mod split;
 
 pub use choose::plan_ctu;
 pub use leaves::Leaves;
+
+#[cfg(test)]
+mod tests;

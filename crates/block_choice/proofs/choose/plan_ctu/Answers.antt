@@ -1,4 +1,4 @@
-use Rattle.std.proofs.Common.{◌≡◌, ℕ, ◌+◌, ◌*◌, ◌/◌, ◌%◌, ◌<◌, ◌≤◌, true, false, Option, Some, None, get_or, replicate, refl, ◌∙◌, sym, ap, arith}
+use Rattle.std.proofs.Common.{◌≡◌, ℕ, ◌+◌, ◌*◌, ◌/◌, ◌%◌, ◌<◌, true, false, Option, Some, None, replicate, refl, ◌∙◌, ap, arith}
 use Rattle.std.proofs.lemmas.List.{get_or-replicate}
 use Rattle.h265_model.specs.Plain.{Size, Picture, coded, ctu_x, ctu_y}
 use Rattle.h265_model.specs.Choice.{Plan, plan, choice}
@@ -30,10 +30,10 @@ pub plan_with-requires-in-Some-clause-copies : goal.plan_with-requires-in-Some-c
 plan_with-requires-in-Some-clause-copies g c =
     let ew : c.w.result ≡ c.args.now.now.size.w = c.w.ensures.value ∙ ap (λ (s : Size). s.w) c.size-size.ensures.value in
     elim c.if-touched.branch [
-    | then-touched w ↦ rw w.copies-is w.equal_squares-copies.ensures.copies
-    | else-touched w ↦
-        let same = rw c.in-Some.is at c.requires.untouched in
-        rw w.copies-is (untouched_tells (picture_of c.in-Some.before.now) (picture_of c.args.now.now) c.args.now.now.size c.args.ctu c.w.result ew (same w.if-touched.false))
+      | then-touched w ↦ rw w.copies-is w.equal_squares-copies.ensures.copies
+      | else-touched w ↦
+          let same = rw c.in-Some.is at c.requires.untouched in
+          rw w.copies-is (untouched_tells (picture_of c.in-Some.before.now) (picture_of c.args.now.now) c.args.now.now.size c.args.ctu c.w.result ew (same w.if-touched.false))
     ]
 
 leaves_at : Option Picture → Picture → Size → ℕ → ℕ → ℕ → Plan

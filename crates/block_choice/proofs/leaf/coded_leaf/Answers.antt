@@ -4,7 +4,7 @@ use Rattle.h265_model.specs.declared.leaf.Kind.TheVariants.{Intra, Pcm}
 use Rattle.h265_model.specs.Choice.{modes_of, pcm_cost, one_leaf, intra_cost, best_of}
 use Rattle.px_plane.specs.Planes.{picture_of}
 use Rattle.leaf_cost.specs.declared.best.Best.{Best}
-use Rattle.leaf_cost.specs.Costs.{IsBest, IsCheapest, AreDear}
+use Rattle.leaf_cost.specs.Costs.{IsCheapest, AreDear}
 use Rattle.block_choice.specs.Plans.{intra_plans}
 use Rattle.block_choice.proofs.Cheapest.{best_pick, best_last, best_least, all_dear}
 use Rattle.block_choice.proofs.leaf.coded_leaf.Goals as goal
@@ -52,9 +52,11 @@ returns-in-Some c =
 
 pub returns-then-pcm-limit : goal.returns-then-pcm-limit
 returns-then-pcm-limit c =
-    let pcm = pcm_is c.side-n.result c.args.log2 c.side-n.ensures.value in
-    (c.if-pcm-limit.true, pcm_wins c.args.now.now.size (picture_of c.args.now.now) c.args.x c.args.y c.args.log2 c.args.limit (24 + 24 * c.side-n.result * c.side-n.result) (modes_of c.args.effort) pcm c.if-pcm-limit.true
-    (rw (← c.min.ensures, ← c.modes_for.ensures.modes) c.in_default.ensures))
+    let pcm = pcm_is c.side-n.result c.args.log2 c.side-n.ensures.value in (
+      c.if-pcm-limit.true,
+      pcm_wins c.args.now.now.size (picture_of c.args.now.now) c.args.x c.args.y c.args.log2 c.args.limit (24 + 24 * c.side-n.result * c.side-n.result) (modes_of c.args.effort) pcm c.if-pcm-limit.true
+          (rw (← c.min.ensures, ← c.modes_for.ensures.modes) c.in_default.ensures),
+    )
 
 pub returns : goal.returns
 returns c =

@@ -1,11 +1,9 @@
-use Rattle.std.proofs.Common.{◌≡◌, ℕ, ◌+◌, ◌-◌, ◌*◌, ◌/◌, ◌%◌, ◌<◌, ◌≤◌, ◌^◌, true, false, [], ◌∷◌, refl, sym, ap, ◌∙◌, arith}
+use Rattle.std.proofs.Common.{◌≡◌, ℕ, ◌+◌, ◌-◌, ◌*◌, ◌/◌, ◌%◌, ◌≤◌, ◌^◌, sym, ap, ◌∙◌, arith}
 use Rattle.std.proofs.lemmas.Bool.{false≢true}
-use Rattle.h265_model.specs.Plain.{Size, coded, leaf_with}
-use Rattle.h265_model.specs.Choice.{skips, one_leaf}
-use Rattle.h265_model.specs.declared.leaf.Kind.TheVariants.{Skip}
+use Rattle.h265_model.specs.Plain.{Size, coded}
 use Rattle.px_plane.specs.Planes.{picture_of}
 use Rattle.intra_refs.proofs.Sides.{eights}
-use Rattle.block_choice.specs.Plans.{before, before_of, AreAllCopied}
+use Rattle.block_choice.specs.Plans.{before_of, AreAllCopied}
 use Rattle.block_choice.proofs.Squares.{skips_yes, skips_no}
 use Rattle.block_choice.proofs.OneLeaf.{copied_plan, coded_plan, whole_from, whole_is, side_eights}
 use Rattle.block_choice.proofs.leaf.whole_leaf.Goals as goal

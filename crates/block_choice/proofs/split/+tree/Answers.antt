@@ -1,9 +1,9 @@
-use Rattle.std.proofs.Common.{◌≡◌, ℕ, zero, suc, ◌+◌, ◌-◌, ◌*◌, ◌/◌, ◌%◌, ◌<◌, ◌≤◌, ◌^◌, List, [], ◌∷◌, ◌++◌, take, length, true, false, not, refl, sym, ap, ◌∙◌, arith, rules, length-append, append_assoc}
-use Rattle.std.specs.Prelude.{Option, Some, None}
+use Rattle.std.proofs.Common.{◌≡◌, ℕ, ◌+◌, ◌-◌, ◌*◌, ◌<◌, ◌≤◌, ◌^◌, List, [], ◌∷◌, ◌++◌, take, length, true, refl, sym, ap, ◌∙◌, arith, length-append}
+use Rattle.std.specs.Prelude.{Some, None}
 use Rattle.h265_model.specs.declared.leaf.Leaf.{Leaf}
-use Rattle.h265_model.specs.Plain.{Size, leaf_with}
+use Rattle.h265_model.specs.Plain.{leaf_with}
 use Rattle.h265_model.specs.Predict.{is_inside}
-use Rattle.h265_model.specs.Choice.{Plan, plan, split_plan}
+use Rattle.h265_model.specs.Choice.{Plan}
 use Rattle.px_plane.specs.Planes.{picture_of}
 use Rattle.std.proofs.lemmas.Nat.{mul-le}
 use Rattle.h265_model.proofs.ListParts.{take_front}
@@ -17,7 +17,7 @@ pub plan_block-returns-in-Some-plan_split-clause-planned : goal.plan_block-retur
 plan_block-returns-in-Some-plan_split-clause-planned t c =
     let k = c.args.task.now in
     let bound : c.match-leaf.bound ≡ bound_of (before_of k) (picture_of k.current.now) k.current.now.size k.effort c.whole_leaf-leaf.result c.args.limit =
-        elim c.match-leaf.branch [ plan_block-in-Some w ↦ w.bound-is ∙ rw w.in-Some.is refl | plan_block-in-None w ↦ w.bound-is ∙ rw w.in-None.is refl ] in
+    elim c.match-leaf.branch [ plan_block-in-Some w ↦ w.bound-is ∙ rw w.in-Some.is refl | plan_block-in-None w ↦ w.bound-is ∙ rw w.in-None.is refl ] in
     let inside : is_inside k.current.now.size c.args.x c.args.y ≡ true = sym c.is_inside.ensures ∙ c.if-not-is_inside.false in
     split_planned (before_of k) (picture_of k.current.now) k.current.now.size k.effort c.whole_leaf-leaf.result c.args.limit c.args.depth c.args.x c.args.y c.in-Some-plan_split.cost
     c.args.leaves.now c.plan_split.new.leaves inside c.if-depth-gt0.true c.whole_leaf-leaf.ensures (rw (← bound) c.in-Some-plan_split.ensures.planned)
@@ -26,27 +26,27 @@ pub plan_block-returns-in_err-best-clause-planned : goal.plan_block-returns-in_e
 plan_block-returns-in_err-best-clause-planned t c =
     let k = c.args.task.now in
     let bound : c.match-leaf.bound ≡ bound_of (before_of k) (picture_of k.current.now) k.current.now.size k.effort c.whole_leaf-leaf.result c.args.limit =
-        elim c.match-leaf.branch [ plan_block-in-Some w ↦ w.bound-is ∙ rw w.in-Some.is refl | plan_block-in-None w ↦ w.bound-is ∙ rw w.in-None.is refl ] in
+    elim c.match-leaf.branch [ plan_block-in-Some w ↦ w.bound-is ∙ rw w.in-Some.is refl | plan_block-in-None w ↦ w.bound-is ∙ rw w.in-None.is refl ] in
     let inside : is_inside k.current.now.size c.args.x c.args.y ≡ true = sym c.is_inside.ensures ∙ c.if-not-is_inside.false in
     let splits : 0 < c.args.depth → c.match-leaf.bound ≤ (split_of (before_of k) (picture_of k.current.now) k.current.now.size k.effort (c.args.depth - 1) c.args.x c.args.y).cost =
-        λ some. elim c.if-depth-gt0.branch [
-        | plan_block-then-depth-gt0+in_default w ↦ w.in_default.ensures.planned.0
-        | plan_block-else-depth-gt0 w ↦ absurd (let no : c.args.depth ≤ 0 = w.if-depth-gt0.false in omega arith)
-        ] in
+    λ some. elim c.if-depth-gt0.branch [
+      | plan_block-then-depth-gt0+in_default w ↦ w.in_default.ensures.planned.0
+      | plan_block-else-depth-gt0 w ↦ absurd (let no : c.args.depth ≤ 0 = w.if-depth-gt0.false in omega arith)
+    ] in
     let kept : c.if-depth-gt0.leaves ≡ c.args.leaves.now =
-        elim c.if-depth-gt0.branch [ plan_block-then-depth-gt0+in_default w ↦ w.leaves-is ∙ w.in_default.ensures.planned.1 | plan_block-else-depth-gt0 w ↦ w.leaves-is ] in
+    elim c.if-depth-gt0.branch [ plan_block-then-depth-gt0+in_default w ↦ w.leaves-is ∙ w.in_default.ensures.planned.1 | plan_block-else-depth-gt0 w ↦ w.leaves-is ] in
     let taken : c.match-leaf.leaf ≡ c.whole_leaf-leaf.result = elim c.match-leaf.branch [ plan_block-in-Some w ↦ w.leaf-is ∙ sym w.in-Some.is | plan_block-in-None w ↦ w.leaf-is ] in
     let none : c.whole_leaf-leaf.result ≡ None = sym taken ∙ c.in_err-best.was in
     let is = rw none at c.whole_leaf-leaf.ensures in
     let to : c.match-leaf.bound ≡ c.args.limit = rw none at bound in
     let low = none_planned (before_of k) (picture_of k.current.now) k.current.now.size k.effort c.args.limit c.args.depth c.args.x c.args.y inside
-        (eights c.args.x (3 + c.args.depth) (omega arith) (omega arith) c.requires.place.whole_x) (eights c.args.y (3 + c.args.depth) (omega arith) (omega arith) c.requires.place.whole_y) is (rw (← to) splits) in
+    (eights c.args.x (3 + c.args.depth) (omega arith) (omega arith) c.requires.place.whole_x) (eights c.args.y (3 + c.args.depth) (omega arith) (omega arith) c.requires.place.whole_y) is (rw (← to) splits) in
     rw c.from_residual.ensures (low, kept)
 
 pub plan_block-push-requires : goal.plan_block-push-requires
 plan_block-push-requires t c =
     let kept : c.if-depth-gt0.leaves ≡ c.args.leaves.now =
-        elim c.if-depth-gt0.branch [ plan_block-then-depth-gt0+in_default w ↦ w.leaves-is ∙ w.in_default.ensures.planned.1 | plan_block-else-depth-gt0 w ↦ w.leaves-is ] in
+    elim c.if-depth-gt0.branch [ plan_block-then-depth-gt0+in_default w ↦ w.leaves-is ∙ w.in_default.ensures.planned.1 | plan_block-else-depth-gt0 w ↦ w.leaves-is ] in
     let some = four_some c.args.depth in
     let same : length c.if-depth-gt0.leaves ≡ length c.args.leaves.now = ap (λ (l : List Leaf). length l) kept in
     omega arith
@@ -55,15 +55,15 @@ pub plan_block-returns-clause-planned : goal.plan_block-returns-clause-planned
 plan_block-returns-clause-planned t c =
     let k = c.args.task.now in
     let bound : c.match-leaf.bound ≡ bound_of (before_of k) (picture_of k.current.now) k.current.now.size k.effort c.whole_leaf-leaf.result c.args.limit =
-        elim c.match-leaf.branch [ plan_block-in-Some w ↦ w.bound-is ∙ rw w.in-Some.is refl | plan_block-in-None w ↦ w.bound-is ∙ rw w.in-None.is refl ] in
+    elim c.match-leaf.branch [ plan_block-in-Some w ↦ w.bound-is ∙ rw w.in-Some.is refl | plan_block-in-None w ↦ w.bound-is ∙ rw w.in-None.is refl ] in
     let inside : is_inside k.current.now.size c.args.x c.args.y ≡ true = sym c.is_inside.ensures ∙ c.if-not-is_inside.false in
     let splits : 0 < c.args.depth → c.match-leaf.bound ≤ (split_of (before_of k) (picture_of k.current.now) k.current.now.size k.effort (c.args.depth - 1) c.args.x c.args.y).cost =
-        λ some. elim c.if-depth-gt0.branch [
-        | plan_block-then-depth-gt0+in_default w ↦ w.in_default.ensures.planned.0
-        | plan_block-else-depth-gt0 w ↦ absurd (let no : c.args.depth ≤ 0 = w.if-depth-gt0.false in omega arith)
-        ] in
+    λ some. elim c.if-depth-gt0.branch [
+      | plan_block-then-depth-gt0+in_default w ↦ w.in_default.ensures.planned.0
+      | plan_block-else-depth-gt0 w ↦ absurd (let no : c.args.depth ≤ 0 = w.if-depth-gt0.false in omega arith)
+    ] in
     let kept : c.if-depth-gt0.leaves ≡ c.args.leaves.now =
-        elim c.if-depth-gt0.branch [ plan_block-then-depth-gt0+in_default w ↦ w.leaves-is ∙ w.in_default.ensures.planned.1 | plan_block-else-depth-gt0 w ↦ w.leaves-is ] in
+    elim c.if-depth-gt0.branch [ plan_block-then-depth-gt0+in_default w ↦ w.leaves-is ∙ w.in_default.ensures.planned.1 | plan_block-else-depth-gt0 w ↦ w.leaves-is ] in
     let taken : c.match-leaf.leaf ≡ c.whole_leaf-leaf.result = elim c.match-leaf.branch [ plan_block-in-Some w ↦ w.leaf-is ∙ sym w.in-Some.is | plan_block-in-None w ↦ w.leaf-is ] in
     let found : c.whole_leaf-leaf.result ≡ Some c.in_ok-best.best = sym taken ∙ c.in_ok-best.was in
     let is = rw found at c.whole_leaf-leaf.ensures in
@@ -74,7 +74,7 @@ plan_block-returns-clause-planned t c =
 pub plan_block-returns-clause-few : goal.plan_block-returns-clause-few
 plan_block-returns-clause-few t c =
     let kept : c.if-depth-gt0.leaves ≡ c.args.leaves.now =
-        elim c.if-depth-gt0.branch [ plan_block-then-depth-gt0+in_default w ↦ w.leaves-is ∙ w.in_default.ensures.planned.1 | plan_block-else-depth-gt0 w ↦ w.leaves-is ] in
+    elim c.if-depth-gt0.branch [ plan_block-then-depth-gt0+in_default w ↦ w.leaves-is ∙ w.in_default.ensures.planned.1 | plan_block-else-depth-gt0 w ↦ w.leaves-is ] in
     let some = four_some c.args.depth in
     let same : length c.if-depth-gt0.leaves ≡ length c.args.leaves.now = ap (λ (l : List Leaf). length l) kept in
     let more = ap (λ (l : List Leaf). length l) c.push.ensures ∙ length-append c.if-depth-gt0.leaves _ in
@@ -84,10 +84,19 @@ pub plan_split-plan_block-requires : goal.plan_split-plan_block-requires
 plan_split-plan_block-requires t c =
     let q : ℕ = c.loop-quarter.quarter in
     let few = c.loop-quarter.invariant.few in
-    let quarters : (q + 1) * 4 ^ c.args.depth ≤ 4 * 4 ^ c.args.depth = mul-le (q + 1) (4 ^ c.args.depth) 4 (4 ^ c.args.depth) (omega arith) (omega arith) in
-    (omega arith, (c.requires.task, (omega arith, (
-    quarter_place c.args.task.now c.args.depth c.args.x c.args.y q c.side-half.result c.requires.depth (omega arith) c.side-half.ensures.value c.requires.place,
-    omega arith))))
+    let quarters : (q + 1) * 4 ^ c.args.depth ≤ 4 * 4 ^ c.args.depth = mul-le (q + 1) (4 ^ c.args.depth) 4 (4 ^ c.args.depth) (omega arith) (omega arith) in (
+      omega arith,
+      (
+        c.requires.task,
+        (
+          omega arith,
+          (
+            quarter_place c.args.task.now c.args.depth c.args.x c.args.y q c.side-half.result c.requires.depth (omega arith) c.side-half.ensures.value c.requires.place,
+            omega arith,
+          ),
+        ),
+      ),
+    )
 
 pub plan_split-returns-in-None-clause-planned : goal.plan_split-returns-in-None-clause-planned
 plan_split-returns-in-None-clause-planned t c =

@@ -1,5 +1,4 @@
-use Rattle.std.proofs.Common.{◌≡◌, ◌≤◌, ◌<◌, ℕ, ◌+◌, ◌*◌, ◌^◌, List, ◌++◌, length}
-use Rattle.h265_model.specs.declared.leaf.Leaf.{Leaf}
+use Rattle.std.proofs.Common.{◌≡◌, ◌≤◌, ◌<◌, ◌+◌, ◌*◌, ◌^◌, ◌++◌, length}
 use Rattle.px_plane.specs.Planes.{picture_of}
 use Rattle.block_choice.specs.Plans.{before_of}
 use Rattle.block_choice.proofs.Planned.{parts}
@@ -16,5 +15,5 @@ invariant-plan_split-loop-quarter l = record {
   cost : l.cost ≡ 1 + (parts (before_of l.task) (picture_of l.task.current.now) l.task.current.now.size l.task.effort l.depth l.x l.y l.quarter).cost;
   leaves : l.leaves ≡ l.initial.leaves ++ (parts (before_of l.task) (picture_of l.task.current.now) l.task.current.now.size l.task.effort l.depth l.x l.y l.quarter).leaves;
   below : 0 < l.quarter → l.cost < l.limit;
-  few : length l.leaves ≤ length l.initial.leaves + l.quarter * 4 ^ l.depth
+  few : length l.leaves ≤ length l.initial.leaves + l.quarter * 4 ^ l.depth;
 }

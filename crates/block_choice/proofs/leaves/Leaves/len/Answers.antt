@@ -1,4 +1,4 @@
-use Rattle.std.proofs.Common.{◌≡◌, ◌≤◌, ◌<◌, ℕ, length, arith, sym, ap, ◌∙◌, List}
+use Rattle.std.proofs.Common.{◌≡◌, ◌≤◌, length, arith, sym, ap, ◌∙◌, List}
 use Rattle.std.proofs.lemmas.List.{length-take-le}
 use Rattle.h265_model.specs.declared.leaf.Leaf.{Leaf}
 use Rattle.block_choice.proofs.leaves.Leaves.len.Goals as goal
