@@ -1,0 +1,4 @@
+pub mod Cheapest
+pub mod Squares
+pub mod OneLeaf
+pub mod Planned

@@ -1,0 +1,94 @@
+//! The cheapest coding unit of a whole block.
+ghost use Rattle.std.specs.Prelude.{◌≡◌, ℕ, ◌+◌, ◌*◌, ◌-◌, ◌/◌, ◌%◌, ◌<◌, ◌≤◌, ◌^◌, map, true};
+ghost use Rattle.h265_model.specs.Plain.{coded, leaf_with};
+ghost use Rattle.h265_model.specs.Choice.{best_of, one_leaf, pcm_cost, leaf_plan, modes_of};
+ghost use Rattle.h265_model.specs.Tree.{is_whole};
+ghost use Rattle.h265_model.specs.declared.leaf.Kind.TheVariants.{Pcm};
+ghost use Rattle.px_plane.specs.Planes.{picture_of};
+ghost use Rattle.block_choice.specs.Plans.{IsTask, IsPlace, intra_plans, IsLeafPlan, IsWholeLeaf, before_of};
+
+use crate::copies::is_copied;
+use crate::modes::modes_for;
+use h265_model::Kind;
+use leaf_cost::{Best, best_mode};
+use px_plane::Picture;
+
+/// The coding tree unit at (x, y) of a picture, and the picture before it, where there is one.
+#[derive(Drop)]
+pub(crate) struct Task<'a> {
+    pub last: &'a Picture,
+    pub has_last: bool,
+    pub current: &'a Picture,
+    pub effort: u32,
+    pub x: u32,
+    pub y: u32,
+    pub copies: [bool; 16],
+}
+
+/// The side of a block.
+pub(crate) fn side(log2: u32) -> u32
+    requires low { 3 ≤ log2 }
+    requires high { log2 ≤ 5 }
+    ensures value { result ≡ 2 ^ log2 }
+    ensures least { 8 ≤ result }
+    ensures most { result ≤ 32 }
+{
+    match log2 {
+        3 => 8,
+        4 => 16,
+        _ => 32,
+    }
+}
+
+// The cheapest of the modes and PCM, where it costs less than `limit`.
+fn coded_leaf(now: &Picture, effort: u32, x: u32, y: u32, log2: u32, limit: u32) -> Option<Best>
+    requires effort { effort ≤ 2 }
+    requires low { 3 ≤ log2 }
+    requires high { log2 ≤ 5 }
+    requires whole_x { x % 2 ^ log2 ≡ 0 }
+    requires whole_y { y % 2 ^ log2 ≡ 0 }
+    requires across { x + 2 ^ log2 ≤ coded now.now.size.w }
+    requires down { y + 2 ^ log2 ≤ coded now.now.size.h }
+    ensures { IsLeafPlan result limit x y log2
+        (best_of (intra_plans now.now.size (picture_of now.now) x y log2 (modes_of effort)) (one_leaf (pcm_cost log2) (leaf_with x y log2 Pcm))) }
+{
+    let n = side(log2);
+    let pcm = 24 + 24 * n * n;
+    if let Some(best) = best_mode(now, x, y, log2, modes_for(effort), limit.min(pcm + 1)) {
+        return Some(best);
+    }
+    if pcm < limit {
+        return Some(Best {
+            cost: pcm,
+            kind: Kind::Pcm,
+        });
+    }
+    None
+}
+
+/// The cheapest coding unit of a block, where the block lies wholly in the coded picture and it costs less than `limit`.
+pub(crate) fn whole_leaf(task: &Task, depth: u32, x: u32, y: u32, limit: u32) -> Option<Best>
+    requires task { IsTask task.now }
+    requires depth { depth ≤ 2 }
+    requires place { IsPlace task.now depth x y }
+    ensures { IsWholeLeaf result limit x y depth (is_whole task.now.current.now.size (2 ^ (3 + depth)) x y)
+        (leaf_plan (before_of task.now) (picture_of task.now.current.now) task.now.current.now.size task.now.effort x y (3 + depth)) }
+{
+    let n = side(3 + depth);
+    let size = task.current.size();
+    if x + n > (size.w() + 7) / 8 * 8 || y + n > (size.h() + 7) / 8 * 8 {
+        return None;
+    }
+    let (i, j) = (((x - task.x) / 8) as usize, ((y - task.y) / 8) as usize);
+    if is_copied(&task.copies, i, j, (n / 8) as usize) {
+        return if limit > 1 {
+            Some(Best {
+                cost: 1,
+                kind: Kind::Skip,
+            })
+        } else {
+            None
+        };
+    }
+    coded_leaf(task.current, task.effort, x, y, 3 + depth, limit)
+}
