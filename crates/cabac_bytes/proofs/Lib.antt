@@ -1,0 +1,4 @@
+pub mod Numbers
+pub mod Shown
+pub mod Steps
+pub mod Closing
