@@ -1,9 +1,8 @@
 -- The last bytes of a run.
-use Rattle.std.proofs.Common.{◌≡◌, refl, sym, ◌∙◌, ap, subst, ℕ, zero, suc, ◌+◌, ◌*◌, ◌-◌, ◌/◌, ◌%◌, ◌^◌, ◌<◌, ◌≤◌, Bool, true, false, List, [], ◌∷◌, ◌++◌, length, append_assoc, append-nil, length-append, pow-suc, mod-lt, bit_and, arith}
-use Rattle.std.proofs.lemmas.Nat.{pow_pos, pow-add, div-add-mod', one_shl, and_mask}
-use Rattle.std.specs.Prelude.{Some, None, Option, Ok, Err, Result, OnOk}
+use Rattle.std.proofs.Common.{◌≡◌, refl, sym, ◌∙◌, ap, ℕ, zero, suc, ◌+◌, ◌*◌, ◌-◌, ◌/◌, ◌%◌, ◌^◌, ◌<◌, List, ◌++◌, length, append_assoc, length-append, pow-suc, mod-lt, arith}
+use Rattle.std.proofs.lemmas.Nat.{pow_pos, pow-add, div-add-mod'}
+use Rattle.std.specs.Prelude.{None, Option, Ok, Err, Result, OnOk}
 use Rattle.h265_model.specs.declared.memory.NoMemory.{NoMemory}
-use Rattle.h265_model.specs.Plain.{AreBytes}
 use Rattle.h265_model.proofs.ListParts.{all_append, all_front, all_back}
 use Rattle.cabac_bytes.specs.Pending.{Pending, number, kept, limit, Passes, PassesAllBut, Closes}
 use Rattle.cabac_bytes.proofs.Numbers.{number-append}
@@ -15,7 +14,7 @@ bytes_power (suc n) =
     let e : 8 * suc n ≡ 8 * n + 8 = omega arith in
     ap (λ m. 2 ^ m) e ∙ pow-add 2 (8 * n) 8 ∙ ap (λ p. p * 256) (bytes_power n) ∙ sym (pow-suc 256 n)
 
-bytes_positive : (n : ℕ) → 0 < 256 ^ n
+pub bytes_positive : (n : ℕ) → 0 < 256 ^ n
 bytes_positive n = let e = bytes_power n in let h = pow_pos (8 * n) in omega arith
 
 one_power : (left : ℕ) → 0 < left → 256 ^ left ≡ 256 ^ (left - 1) * 256
@@ -46,7 +45,7 @@ one_passed left rest last count lead old now new h a is p =
     let same : (a.added ++ p.added) ++ kept new.held new.run ≡ a.added ++ next = append_assoc a.added p.added (kept new.held new.run) in
     let size : 256 ^ length next ≡ 256 ^ length was * 256 = ap (λ n. 256 ^ n) p.long ∙ (let e : length was + 1 ≡ suc (length was) = omega arith in rw e (pow-suc 256 (length was))) in
     let value : number (a.added ++ next) ≡ number (a.added ++ was) * 256 + lead =
-        number-append a.added next ∙ two (number a.added) (256 ^ length next) (256 ^ length was) (number next) (number was) lead size p.value ∙ ap (λ n. n * 256 + lead) (sym (number-append a.added was)) in
+    number-append a.added next ∙ two (number a.added) (256 ^ length next) (256 ^ length was) (number next) (number was) lead size p.value ∙ ap (λ n. n * 256 + lead) (sym (number-append a.added was)) in
     let long : length (a.added ++ next) ≡ length (a.added ++ was) + 1 = omega (arith, length-append a.added next, length-append a.added was, p.long) in
     let whole : lead * q + rest % q ≡ rest = rw lead_is (div-add-mod' rest q) in
     let few = a.few in

@@ -1,12 +1,12 @@
 -- The numbers that bytes spell.
-use Rattle.std.proofs.Common.{◌≡◌, refl, sym, ◌∙◌, ap, subst, ℕ, zero, suc, ◌+◌, ◌*◌, ◌-◌, ◌/◌, ◌%◌, ◌^◌, ◌<◌, ◌≤◌, Bool, true, false, List, [], ◌∷◌, ◌++◌, length, replicate, length-append, append-nil, pow-suc, arith}
+use Rattle.std.proofs.Common.{◌≡◌, refl, sym, ◌∙◌, ap, ℕ, zero, suc, ◌+◌, ◌*◌, ◌-◌, ◌^◌, ◌<◌, ◌≤◌, Bool, true, false, List, [], ◌∷◌, ◌++◌, length, replicate, length-append, append-nil, pow-suc, arith}
 use Rattle.std.proofs.lemmas.Bool.{eqb-true, eqb-false}
 use Rattle.std.proofs.lemmas.List.{length-replicate}
-use Rattle.std.proofs.lemmas.Nat.{pow_pos, pow-add}
-use Rattle.std.specs.Prelude.{Some, None, Option, ◌==◌, if◌then◌else◌}
+use Rattle.std.proofs.lemmas.Nat.{pow-add}
+use Rattle.std.specs.Prelude.{Some, ◌==◌}
 use Rattle.h265_model.specs.Plain.{AreBytes}
-use Rattle.h265_model.proofs.ListParts.{all_append, all_front, all_back}
-use Rattle.cabac_bytes.specs.Pending.{Pending, number, kept, limit, Passes}
+use Rattle.h265_model.proofs.ListParts.{all_append}
+use Rattle.cabac_bytes.specs.Pending.{number, limit, Passes}
 
 join : (x p q a b : ℕ) → x * (p * q) + (a * q + b) ≡ (x * p + a) * q + b
 join x p q a b = omega arith

@@ -1,14 +1,14 @@
 -- What a state shows, and shows after a step.
-use Rattle.std.proofs.Common.{◌≡◌, refl, sym, ◌∙◌, ap, subst, ℕ, zero, suc, ◌+◌, ◌*◌, ◌-◌, ◌/◌, ◌%◌, ◌^◌, ◌<◌, ◌≤◌, Bool, true, false, List, [], ◌∷◌, ◌++◌, length, append_assoc, append-nil, length-append, pow-suc, mod-lt, bit_and, ne_eqb, arith}
+use Rattle.std.proofs.Common.{◌≡◌, refl, sym, ◌∙◌, ap, subst, ℕ, suc, ◌+◌, ◌*◌, ◌-◌, ◌/◌, ◌%◌, ◌^◌, ◌<◌, ◌≤◌, Bool, false, List, ◌++◌, length, append_assoc, length-append, pow-suc, mod-lt, bit_and, ne_eqb, arith}
 use Rattle.std.proofs.lemmas.Nat.{pow_pos, pow-add, and_mask, one_shl, div-add-mod'}
 use Rattle.std.proofs.Math.Nat.{div-lt_iff_lt-mul, pow-le-pow_right}
-use Rattle.std.specs.Prelude.{Some, None, Option, ◌==◌, ◌&&◌, if◌then◌else◌}
+use Rattle.std.specs.Prelude.{Some, None, Option, ◌==◌, ◌&&◌}
 use Rattle.h265_model.specs.Plain.{AreBytes}
 use Rattle.h265_model.specs.Code.{Coding}
-use Rattle.h265_model.proofs.ListParts.{all_append, all_front, all_back}
+use Rattle.h265_model.proofs.ListParts.{all_append, all_front}
 use Rattle.cabac_bytes.specs.Pending.{Pending, number, kept, limit, Passes}
-use Rattle.cabac_bytes.specs.State.{State, Shows, Advances, is_fresh, is_none, IsState}
-use Rattle.cabac_bytes.proofs.Numbers.{number-append, Room, room, last, more}
+use Rattle.cabac_bytes.specs.State.{State, Shows, Advances, is_none, IsState}
+use Rattle.cabac_bytes.proofs.Numbers.{number-append, room, last, more}
 use Rattle.std.proofs.Math.Bool.{and-false}
 
 -- ---- the first byte of a number
@@ -60,7 +60,7 @@ passed s c new lead rest w whole p h =
     let same : (h.settled ++ p.added) ++ kept new.held new.run ≡ h.settled ++ now = append_assoc h.settled p.added (kept new.held new.run) in
     let power : 256 ^ length now ≡ 256 ^ length was * 256 = ap (λ n. 256 ^ n) p.long ∙ (let e : length was + 1 ≡ suc (length was) = omega arith in rw e (pow-suc 256 (length was))) in
     let value : number (h.settled ++ now) ≡ number (h.settled ++ was) * 256 + lead =
-        number-append h.settled now ∙ two (number h.settled) (256 ^ length now) (256 ^ length was) (number now) (number was) lead power p.value ∙ ap (λ n. n * 256 + lead) (sym (number-append h.settled was)) in
+    number-append h.settled now ∙ two (number h.settled) (256 ^ length now) (256 ^ length was) (number now) (number was) lead power p.value ∙ ap (λ n. n * 256 + lead) (sym (number-append h.settled was)) in
     let long : length (h.settled ++ now) ≡ length (h.settled ++ was) + 1 = omega (arith, length-append h.settled now, length-append h.settled was, p.long) in
     record {
       settled = h.settled ++ p.added;

@@ -1,13 +1,13 @@
 -- What the steps of a coder do to what its state shows.
-use Rattle.std.proofs.Common.{◌≡◌, refl, sym, ◌∙◌, ap, subst, ℕ, zero, suc, ◌+◌, ◌*◌, ◌-◌, ◌/◌, ◌%◌, ◌^◌, ◌<◌, ◌≤◌, Bool, true, false, List, [], ◌∷◌, ◌++◌, length, get_or, mod-eq_of_lt, ne_eqb, add-zero, pow-suc, mul_comm, mod-lt, arith}
+use Rattle.std.proofs.Common.{◌≡◌, refl, sym, ◌∙◌, ap, ℕ, zero, suc, ◌+◌, ◌*◌, ◌-◌, ◌/◌, ◌%◌, ◌^◌, ◌<◌, ◌≤◌, Bool, true, false, List, [], ◌∷◌, ◌++◌, get_or, mod-eq_of_lt, ne_eqb, add-zero, pow-suc, mul_comm, mod-lt, arith}
 use Rattle.std.proofs.lemmas.Nat.{pow_pos, pow-add, mul-le}
 use Rattle.std.proofs.lemmas.Bool.{agree_below, agree_below_at, and_parts, le-ltb, leb-true, eqb-true}
 use Rattle.std.proofs.Math.Nat.{pow-le-pow_right, mod-one}
 use Rattle.std.proofs.Math.Bool.{and-false}
 use Rattle.std.specs.Int.Count.{count_leading_zeros}
-use Rattle.std.specs.Prelude.{Some, None, Option, Ok, Err, Result, OnOk, ◌==◌, ◌&&◌, ◌||◌, nat_lt, nat_le, if◌then◌else◌}
+use Rattle.std.specs.Prelude.{Option, Ok, Err, Result, OnOk, ◌==◌, ◌&&◌, ◌||◌, nat_lt, nat_le}
 use Rattle.std.specs.Bool.{beq}
-use Rattle.h265_model.specs.declared.Place.TheVariants.{Context, Bypass, Terminate}
+use Rattle.h265_model.specs.declared.Place.TheVariants.{Context, Terminate}
 use Rattle.h265_model.specs.declared.Item.TheVariants as items
 use Rattle.h265_model.specs.declared.memory.NoMemory.{NoMemory}
 use Rattle.h265_model.specs.Engine.{doublings}
@@ -16,8 +16,8 @@ use Rattle.h265_model.specs.Binarise.{bypass_bins, fl}
 use Rattle.std.proofs.Math.Arith.{mod-mul}
 use Rattle.h265_model.specs.Contexts.{lps_range, mps, step}
 use Rattle.h265_model.specs.Code.{Coding, coding, scaled, put_bin, Plain}
-use Rattle.cabac_bytes.specs.Pending.{Pending, number, kept, limit}
-use Rattle.cabac_bytes.specs.State.{State, Shows, Advances, Scales, Follows, is_fresh, is_none, phase_of, IsState}
+use Rattle.cabac_bytes.specs.Pending.{number, kept, limit}
+use Rattle.cabac_bytes.specs.State.{State, Shows, Advances, Scales, Follows, is_fresh, is_none, phase_of}
 use Rattle.cabac_bytes.proofs.Shown.{Limits, limits, once, twice, not_fresh}
 
 -- ---- how often a range doubles
@@ -110,9 +110,9 @@ scales s new l r w is_low is_range is_width least less from a =
     let k : ℕ = doublings s.range in
     record {
       shows = λ c h. a.shows (scaled c c.low c.range) (
-        let e : s.range ≡ c.range = h.range in
-        let m = moved s c k 0 r l w (c.low * 2 ^ k) (c.count + k) (is_low ∙ sym (add-zero (s.low * 2 ^ k))) is_width (sym (add-zero (c.low * 2 ^ k))) refl h in
-        rw (← e, ← is_range) m);
+          let e : s.range ≡ c.range = h.range in
+          let m = moved s c k 0 r l w (c.low * 2 ^ k) (c.count + k) (is_low ∙ sym (add-zero (s.low * 2 ^ k))) is_width (sym (add-zero (c.low * 2 ^ k))) refl h in
+          rw (← e, ← is_range) m);
       contexts = a.contexts;
       some = let f = a.range in omega arith;
       fresh = a.fresh ∙ rw (is_range, is_width) (unfresh s.range s.width k (is_none s.pending.held) less from);
@@ -158,9 +158,9 @@ pub went_on : (s new : State) → Scales (record s { range = s.range - 2 }) new 
 unfolding put_bin
 went_on s new a = record {
   shows = λ c h. (let e : s.range ≡ c.range = h.range in
-    let m : Shows (record s { range = s.range - 2 }) (record c { range = c.range - 2 }) =
-        record { settled = h.settled; out = h.out; bytes = h.bytes; low = h.low; count = h.count; range = ap (λ r. r - 2) e; contexts = h.contexts } in
-    a.shows (record c { range = c.range - 2 }) m);
+      let m : Shows (record s { range = s.range - 2 }) (record c { range = c.range - 2 }) =
+      record { settled = h.settled; out = h.out; bytes = h.bytes; low = h.low; count = h.count; range = ap (λ r. r - 2) e; contexts = h.contexts } in
+      a.shows (record c { range = c.range - 2 }) m);
   some = a.some;
   phase = plain_of new a.some a.fresh;
 }
@@ -179,11 +179,11 @@ pub likely : (s t : State) (n : ℕ) (value : Bool) (small : ℕ) (after : List 
 unfolding put_bin
 likely s t n value small after is_small is_likely a is_after = record {
   shows = λ c h. (let e : s.range ≡ c.range = h.range in
-    let d : s.contexts ≡ c.contexts = h.contexts in
-    let f : after ≡ step s.contexts n value = is_after ∙ ap (λ l. step l n value) a.contexts in
-    let m : Shows (record s { range = s.range - small }) (record c { range = s.range - small }) =
-        record { settled = h.settled; out = h.out; bytes = h.bytes; low = h.low; count = h.count; range = refl; contexts = h.contexts } in
-    rw (← e, ← d, is_likely, ← is_small) (with_contexts t _ after (step s.contexts n value) f (a.shows (record c { range = s.range - small }) m)));
+      let d : s.contexts ≡ c.contexts = h.contexts in
+      let f : after ≡ step s.contexts n value = is_after ∙ ap (λ l. step l n value) a.contexts in
+      let m : Shows (record s { range = s.range - small }) (record c { range = s.range - small }) =
+      record { settled = h.settled; out = h.out; bytes = h.bytes; low = h.low; count = h.count; range = refl; contexts = h.contexts } in
+      rw (← e, ← d, is_likely, ← is_small) (with_contexts t _ after (step s.contexts n value) f (a.shows (record c { range = s.range - small }) m)));
   some = a.some;
   phase = plain_of (record t { contexts = after }) a.some a.fresh;
 }
@@ -195,12 +195,12 @@ pub unlikely : (s t : State) (n : ℕ) (value : Bool) (small : ℕ) (after : Lis
 unfolding put_bin
 unlikely s t n value small after is_small is_not a is_after = record {
   shows = λ c h. (let e : s.range ≡ c.range = h.range in
-    let d : s.contexts ≡ c.contexts = h.contexts in
-    let large : ℕ = s.range - small in
-    let f : after ≡ step s.contexts n value = is_after ∙ ap (λ l. step l n value) a.contexts in
-    let m : Shows (record s { low = s.low + large; range = small }) (record c { low = c.low + large; range = small }) =
-        moved s c 0 large small (s.low + large) s.width (c.low + large) c.count (omega arith) (omega arith) (omega arith) (omega arith) h in
-    rw (← e, ← d, is_not, ← is_small) (with_contexts t _ after (step s.contexts n value) f (a.shows (record c { low = c.low + large; range = small }) m)));
+      let d : s.contexts ≡ c.contexts = h.contexts in
+      let large : ℕ = s.range - small in
+      let f : after ≡ step s.contexts n value = is_after ∙ ap (λ l. step l n value) a.contexts in
+      let m : Shows (record s { low = s.low + large; range = small }) (record c { low = c.low + large; range = small }) =
+      moved s c 0 large small (s.low + large) s.width (c.low + large) c.count (omega arith) (omega arith) (omega arith) (omega arith) h in
+      rw (← e, ← d, is_not, ← is_small) (with_contexts t _ after (step s.contexts n value) f (a.shows (record c { low = c.low + large; range = small }) m)));
   some = a.some;
   phase = plain_of (record t { contexts = after }) a.some a.fresh;
 }
@@ -231,7 +231,7 @@ bypass_code (suc n) v c =
     let next : Coding = record c { low = 2 * c.low + digit (d == 1) * c.range; count = c.count + 1 } in
     bypass_code n v next
     ∙ same_coding c ((2 * c.low + digit (d == 1) * c.range) * 2 ^ n + v % 2 ^ n * c.range) (c.low * 2 ^ suc n + v % 2 ^ suc n * c.range) (c.count + 1 + n) (c.count + suc n)
-      (rw is (gathered c.low d c.range (2 ^ n) (2 ^ suc n) (v % 2 ^ n) (v % 2 ^ suc n) (pow-suc 2 n) (two_digits n v))) (omega arith)
+    (rw is (gathered c.low d c.range (2 ^ n) (2 ^ suc n) (v % 2 ^ n) (v % 2 ^ suc n) (pow-suc 2 n) (two_digits n v))) (omega arith)
 
 pub record Few (held : Option ℕ) (w low range value n : ℕ) : Type 0 where
   pub number : low * 2 ^ n % 2 ^ 32 ≡ low * 2 ^ n
@@ -259,9 +259,9 @@ followed (Ok x) s new value n f some below open_range from a =
     let more : 0 < new.range = (let e = a.range in omega arith) in
     record {
       shows = λ c h. (let e : s.range ≡ c.range = h.range in
-        let v : value % 2 ^ n ≡ value = mod-eq_of_lt below in
-        let m = moved s c n (value * s.range) s.range (s.low * 2 ^ n % 2 ^ 32 + value * s.range) (s.width + n) (c.low * 2 ^ n + value * s.range) (c.count + n) (ap (λ l. l + value * s.range) f.number) refl refl refl h in
-        rw (bypass_code n value c, v, ← e) (a.shows _ m));
+          let v : value % 2 ^ n ≡ value = mod-eq_of_lt below in
+          let m = moved s c n (value * s.range) s.range (s.low * 2 ^ n % 2 ^ 32 + value * s.range) (s.width + n) (c.low * 2 ^ n + value * s.range) (c.count + n) (ap (λ l. l + value * s.range) f.number) refl refl refl h in
+          rw (bypass_code n value c, v, ← e) (a.shows _ m));
       some = more;
       phase = plain_of new more (a.fresh ∙ not_fresh s.range (s.width + n) (is_none s.pending.held) (omega arith));
     }

@@ -3,9 +3,11 @@ use Rattle.std.specs.Prelude.{◌≡◌, ℕ, ◌+◌, ◌*◌, ◌^◌, ◌<◌
 use Rattle.h265_model.specs.declared.Item.{Item}
 use Rattle.h265_model.specs.Bits.{is_empty}
 use Rattle.h265_model.specs.Plain.{AreBytes}
-use Rattle.h265_model.specs.Code.{Coding, coding, fresh, scaled, Phase, Plain, Ended, Filled}
+use Rattle.h265_model.specs.Code.{Coding, coding, fresh, scaled, put_bin, Phase, Plain, Ended, Filled}
 use Rattle.h265_model.specs.declared.Place.{Place}
 use Rattle.h265_model.specs.declared.Item.TheVariants as items
+use Rattle.h265_model.specs.declared.Place.TheVariants.{Terminate}
+use Rattle.bin_items.specs.Growth.{sample_items}
 use Rattle.cabac_bytes.specs.Pending.{Pending, number, kept, limit}
 
 -- the bytes, and the number behind them: as many digits of it as `width`, but for a carry; the range, which is 0 after
@@ -88,3 +90,14 @@ pub record Follows (list : List Item) (old new : State) : Type 0 where
 
 abbrev pub Steps : Place → Bool → State → State → Type 0
 Steps place value old new = Follows (items.Bin (record { value = value; place = place }) ∷ []) old new
+
+-- the end of a run
+pub record Ends (old new : State) : Type 0 where
+  pub shows : (c : Coding) → Shows old c → HasEnded new (put_bin Terminate true c)
+  pub range : new.range ≡ 0
+
+-- samples, and a new run
+pub record Fills (samples : List ℕ) (old new : State) : Type 0 where
+  pub shows : (c : Coding) → HasEnded old c → Shows new (coding (sample_items samples) c)
+  pub range : new.range ≡ 510
+  pub phase : phase_of new ≡ Filled

@@ -1,14 +1,15 @@
 //! The coder.
-ghost use Rattle.std.specs.Prelude.{◌≡◌, ℕ, ◌+◌, ◌*◌, ◌^◌, ◌<◌, ◌≤◌, [], false, OnOk, OnErr};
+ghost use Rattle.std.specs.Prelude.{◌≡◌, ℕ, ◌+◌, ◌*◌, ◌^◌, ◌<◌, ◌≤◌, List, [], false, length, OnOk, OnErr, IfOk};
+ghost use Rattle.h265_model.specs.declared.Item.{Item};
 ghost use Rattle.h265_model.specs.Binarise.{bypass_bins, fl};
-ghost use Rattle.h265_model.specs.Code.{Plain};
+ghost use Rattle.h265_model.specs.Code.{Plain, Ended, code, contexts_after};
 ghost use Rattle.h265_model.specs.declared.Place.TheVariants as places;
 ghost use Rattle.cabac_bytes.specs.Pending.{limit};
-ghost use Rattle.cabac_bytes.specs.State.{State, phase_of, stands_for, Advances, Scales, Steps, Follows};
+ghost use Rattle.cabac_bytes.specs.State.{State, phase_of, stands_for, Advances, Scales, Steps, Follows, Ends, Fills};
 
 use crate::pending::PendingBytes;
+use bin_items::{Bin, BinSink, NoMemory, Place};
 use cabac_tables::{Contexts, lps};
-use h265_model::NoMemory;
 use std::alloc::Global;
 use std::marker::Model;
 
@@ -129,5 +130,90 @@ impl ByteCoder {
         ensures err { OnErr result (self.new ≡ self.old) }
     {
         self.renormalise(self.low, self.range - 2)
+    }
+
+    // A terminating bin 1: the last digit is a 1, and zeros follow to the byte (9.3.5.6).
+    fn end_run(&mut self) -> Result<(), NoMemory>
+        requires not_ended { 0 < self.old.range }
+        ensures ok { OnOk result (Ends self.old self.new) }
+        ensures err { OnErr result (self.new ≡ self.old) }
+    {
+        let number = (self.low + (self.range - 2)) / 2 * 2 + 1;
+        let count = (self.width + 7) / 8;
+        self.pending
+            .close(number << (8 * count - self.width), count)?;
+        self.low = 0;
+        self.width = 9;
+        self.range = 0;
+        Ok(())
+    }
+
+    fn fill(&mut self, samples: &[u8]) -> Result<(), NoMemory>
+        requires ended { self.old.range ≡ 0 }
+        requires some { 0 < length samples.now }
+        ensures ok { OnOk result (Fills samples.now self.old self.new) }
+        ensures err { OnErr result (self.new ≡ self.old) }
+    {
+        self.pending.append(samples)?;
+        self.low = 0;
+        self.width = 9;
+        self.range = 510;
+        Ok(())
+    }
+
+    /// The contexts as they are now.
+    pub fn contexts(&self) -> Contexts
+        ensures { (list : List Item) (contexts : List ℕ) → stands_for self.now list contexts → result ≡ contexts_after list contexts }
+    {
+        self.contexts
+    }
+
+    /// The bytes of the code, after a terminating bin 1.
+    pub fn finish(self) -> Result<Vec<u8>, NoMemory>
+        requires { phase_of self ≡ Ended }
+        ensures { IfOk result (λ bytes. (list : List Item) (contexts : List ℕ) → stands_for self list contexts → bytes.items ≡ code list contexts) }
+    {
+        let ByteCoder {
+            pending,
+            low: _,
+            width: _,
+            range: _,
+            contexts: _,
+        } = self;
+        Ok(pending.into_bytes())
+    }
+}
+
+impl BinSink for ByteCoder {
+    ghost phase = { λ s. phase_of s };
+
+    ghost stands_for = { λ s list contexts. stands_for s list contexts };
+
+    #[inline(always)]
+    fn bin(&mut self, bin: Bin) -> Result<(), NoMemory> {
+        match bin.place {
+            Place::Context(n) => self.context_bin(n, bin.value),
+            Place::Bypass => self.bypass_few(bin.value as u32, 1),
+            Place::Terminate => {
+                if bin.value {
+                    return self.end_run();
+                }
+                self.go_on()
+            }
+        }
+    }
+
+    fn pcm(&mut self, samples: &[u8]) -> Result<(), NoMemory> {
+        self.fill(samples)
+    }
+
+    fn bypass(&mut self, value: u32, count: u32) -> Result<(), NoMemory> {
+        let mut left = count;
+        while left > 0 {
+            let some = left.min(8);
+            left -= some;
+            self.bypass_few(value >> left & ((1 << some) - 1), some)?;
+        }
+        Ok(())
     }
 }

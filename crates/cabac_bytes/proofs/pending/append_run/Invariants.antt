@@ -1,4 +1,4 @@
-use Rattle.std.proofs.Common.{◌≡◌, ◌≤◌, ◌-◌, ◌++◌, ◌∷◌, replicate, length}
+use Rattle.std.proofs.Common.{◌≡◌, ◌≤◌, ◌-◌, ◌++◌, ◌∷◌, replicate}
 use Rattle.cabac_bytes.proofs.pending.append_run.Given as goal
 
 abbrev pub invariant-loop-done : goal.invariant-loop-done

@@ -1,6 +1,6 @@
-use Rattle.std.proofs.Common.{◌≡◌, ◌<◌, ◌≤◌, ◌*◌, ◌+◌, ◌-◌, ◌/◌, ◌%◌, ◌^◌, ap, sym, ◌∙◌, arith, bit_and, ℕ}
-use Rattle.cabac_bytes.specs.Pending.{limit, Pending}
-use Rattle.cabac_bytes.specs.State.{State, Advances}
+use Rattle.std.proofs.Common.{◌≡◌, ◌-◌, ap, sym, arith}
+use Rattle.cabac_bytes.specs.Pending.{limit}
+use Rattle.cabac_bytes.specs.State.{State}
 use Rattle.cabac_bytes.proofs.Shown.{split, low_digits, Wide, kept_room, advanced}
 use Rattle.cabac_bytes.proofs.coder.ByteCoder.advance.Goals as goal
 

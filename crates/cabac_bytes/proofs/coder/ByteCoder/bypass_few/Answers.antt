@@ -1,4 +1,4 @@
-use Rattle.std.proofs.Common.{◌≡◌, arith}
+use Rattle.std.proofs.Common.{arith}
 use Rattle.cabac_bytes.specs.State.{State}
 use Rattle.cabac_bytes.proofs.Steps.{few, followed}
 use Rattle.cabac_bytes.proofs.coder.ByteCoder.bypass_few.Goals as goal

@@ -1,7 +1,5 @@
-use Rattle.std.proofs.Common.{◌≡◌, ◌+◌, ◌-◌, ◌/◌, ◌%◌, ℕ, List, ap, sym, ◌∙◌, true, false, get_or, bit_and, arith}
+use Rattle.std.proofs.Common.{◌≡◌, ◌/◌, ◌%◌, ℕ, List, ap, ◌∙◌, get_or, bit_and}
 use Rattle.std.proofs.lemmas.Nat.{and_mask}
-use Rattle.std.specs.Bool.{beq}
-use Rattle.h265_model.specs.Contexts.{lps_range, mps}
 use Rattle.cabac_bytes.specs.State.{State}
 use Rattle.cabac_bytes.proofs.Steps.{likely, unlikely}
 use Rattle.cabac_bytes.proofs.coder.ByteCoder.context_bin.Goals as goal

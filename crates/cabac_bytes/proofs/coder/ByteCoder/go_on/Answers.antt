@@ -1,4 +1,3 @@
-use Rattle.std.proofs.Common.{◌≡◌, ◌-◌, arith}
 use Rattle.cabac_bytes.specs.State.{State}
 use Rattle.cabac_bytes.proofs.Steps.{ok_went_on}
 use Rattle.cabac_bytes.proofs.coder.ByteCoder.go_on.Goals as goal

@@ -1,7 +1,6 @@
-use Rattle.std.proofs.Common.{◌≡◌, ◌<◌, ◌≤◌, ◌*◌, ◌+◌, ◌-◌, ◌%◌, ◌^◌, ap, sym, ◌∙◌, arith, ℕ}
+use Rattle.std.proofs.Common.{◌-◌, arith}
 use Rattle.std.specs.Int.Count.{count_leading_zeros}
-use Rattle.cabac_bytes.specs.Pending.{limit}
-use Rattle.cabac_bytes.specs.State.{State, Advances, Scales}
+use Rattle.cabac_bytes.specs.State.{State}
 use Rattle.cabac_bytes.proofs.Steps.{doubled, renormal, renormalised}
 use Rattle.cabac_bytes.proofs.coder.ByteCoder.renormalise.Goals as goal
 

@@ -1,5 +1,4 @@
-use Rattle.std.proofs.Common.{◌≡◌, ◌<◌, ◌-◌, ◌*◌, ◌/◌, ◌%◌, ◌^◌, ap, refl, ◌∙◌, bit_and, arith}
-use Rattle.cabac_bytes.specs.Pending.{PassesAllBut}
+use Rattle.std.proofs.Common.{◌≡◌, ◌-◌, ◌*◌, ◌/◌, ◌^◌, refl, arith}
 use Rattle.cabac_bytes.proofs.Shown.{low_digits}
 use Rattle.cabac_bytes.proofs.Closing.{lead_fits, one_passed, closed}
 use Rattle.cabac_bytes.proofs.pending.PendingBytes.pass_all.Goals as goal

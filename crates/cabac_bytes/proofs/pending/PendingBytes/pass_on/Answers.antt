@@ -1,4 +1,4 @@
-use Rattle.std.proofs.Common.{◌≡◌, ◌<◌, ◌≤◌, ◌*◌, ap, sym, ◌∙◌, Some, arith, Fits, rules}
+use Rattle.std.proofs.Common.{◌≡◌, ap, sym, ◌∙◌, Some, arith, rules}
 use Rattle.cabac_bytes.specs.Pending.{limit}
 use Rattle.cabac_bytes.proofs.Numbers.{counted, released, raised, can_raise}
 use Rattle.cabac_bytes.proofs.pending.PendingBytes.pass_on.Goals as goal
