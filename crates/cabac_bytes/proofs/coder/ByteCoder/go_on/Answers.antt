@@ -1,0 +1,9 @@
+use Rattle.cabac_bytes.specs.State.{State}
+use Rattle.cabac_bytes.proofs.Steps.{ok_went_on}
+use Rattle.cabac_bytes.proofs.coder.ByteCoder.go_on.Goals as goal
+
+pub returns-clause-ok : goal.returns-clause-ok
+returns-clause-ok c =
+    let s = c.renormalise.inside in
+    let old : State = record { pending = s.pending; low = s.low; range = s.range; width = s.width; contexts = s.contexts } in
+    rw (← c.renormalise.view_is) (ok_went_on c.renormalise-2.result old c.renormalise-2.new.self (rw (← c.renormalise.view_is) at c.renormalise-2.ensures.ok))
