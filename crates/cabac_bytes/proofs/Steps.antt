@@ -151,6 +151,35 @@ renormalised (Err e) s new k n less from a = tt
 renormalised (Ok x) s new k n less from a =
     scales s new (s.low * 2 ^ k % 2 ^ 32) (s.range * 2 ^ k % 2 ^ 32) (s.width + k) n.number n.share (ap (λ k. s.width + k) n.is) n.least less from a
 
+-- a range of nine digits stays
+all_wide_stay : agree_below (λ r. nat_lt r 256 || doublings r == 0) (λ r. true) 512 ≡ true
+unfolding doublings digits_up_to
+all_wide_stay = refl
+
+wide_stays : (r : ℕ) → 256 ≤ r → r < 512 → doublings r ≡ 0
+wide_stays r low high =
+    let e : (nat_lt r 256 || doublings r == 0) ≡ true = agree_below_at (λ r. nat_lt r 256 || doublings r == 0) (λ r. true) 512 r all_wide_stay high in
+    let t : nat_lt r 256 ≡ false = le-ltb r 256 low in
+    eqb-true _ _ (rw t at e)
+
+pub stayed : (s : State) → 256 ≤ s.range → s.range < 510 → Scales s s
+stayed s least less = record {
+  shows = λ c h. (let e : s.range ≡ c.range = h.range in
+      let z : doublings s.range ≡ 0 = wide_stays s.range least (omega arith) in
+      rw (← e, z) (record {
+        settled = h.settled;
+        out = h.out;
+        bytes = h.bytes;
+        low = (let n = h.low in omega arith);
+        count = (let n = h.count in omega arith);
+        range = omega arith;
+        contexts = h.contexts;
+      }));
+  contexts = refl;
+  some = omega arith;
+  fresh = (let t : s.range == 510 ≡ false = ne_eqb s.range 510 (λ e. omega arith) in rw t refl);
+}
+
 -- ---- one bin
 
 -- 9.3.5.6: a terminating bin 0

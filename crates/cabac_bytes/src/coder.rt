@@ -99,6 +99,11 @@ impl ByteCoder {
         let small = lps(state, self.range >> 6 & 3);
         let large = self.range - small;
         if value == (state & 1 == 1) {
+            if large >= 256 {
+                self.range = large;
+                self.contexts.step(n, value);
+                return Ok(());
+            }
             self.renormalise(self.low, large)?;
             self.contexts.step(n, value);
             return Ok(());
