@@ -1,11 +1,13 @@
 -- Growth in steps.
-use Rattle.std.proofs.Common.{◌≡◌, refl, sym, ◌∙◌, ap, subst, ℕ, List, [], ◌∷◌, ◌++◌, append_assoc, Result, Ok, Err}
+use Rattle.std.proofs.Common.{◌≡◌, refl, sym, ◌∙◌, ap, subst, ℕ, List, [], ◌∷◌, ◌++◌, append_assoc, Result, Ok, Err, ◌<◌, length, arith}
 use Rattle.std.proofs.lemmas.List.{append-nil}
+use Rattle.std.proofs.lemmas.Result.{err_from_is_err_and}
+use Rattle.std.specs.Result.{IsErrAnd}
 use Rattle.h265_model.specs.declared.Item.{Item}
 use Rattle.h265_model.specs.declared.Item.TheVariants as items
 use Rattle.h265_model.specs.declared.memory.NoMemory.{NoMemory}
-use Rattle.h265_model.specs.Code.{Phase, Plain, Ended, Filled, phase_after}
-use Rattle.bin_items.specs.Growth.{Meaning, Grew, Kept, TookAllBut, TookFront, Takes, Writes, IsOpen, phase_then}
+use Rattle.h265_model.specs.Code.{Phase, Filled, phase_after}
+use Rattle.bin_items.specs.Growth.{Meaning, Grew, Kept, TookAllBut, TookFront, Takes, Writes, IsOpen, phase_then, sample_items}
 
 -- ---- whole lists
 
@@ -62,7 +64,7 @@ pub stopped : (list a rest : List Item) (before between after : Meaning) →
 stopped list a rest before between after t f = record {
   rest = f.rest ++ rest;
   took = took_more list f.took.taken (f.rest ++ rest) before between after (took_as list (a ++ rest) (f.took.taken ++ (f.rest ++ rest)) before between
-    (ap (λ l. l ++ rest) f.took.whole ∙ append_assoc f.took.taken f.rest rest) t) f.took.grew;
+      (ap (λ l. l ++ rest) f.took.whole ∙ append_assoc f.took.taken f.rest rest) t) f.took.grew;
 }
 
 -- ---- calls one after another
@@ -77,6 +79,9 @@ pub front_then : (a b : List Item) (before between after : Meaning) → Grew a b
 front_then a b before between after g f =
     stopped (a ++ b) b [] before between after
     (took_as (a ++ b) b (b ++ []) before between (sym (append-nil b)) (took_more (a ++ b) a b before before between (nothing_taken (a ++ b) before) g)) f
+
+pub front_as : (a b : List Item) (before after : Meaning) → a ≡ b → TookFront a before after → TookFront b before after
+front_as a b before after e f = subst (λ l. TookFront l before after) e f
 
 pub writes_took : (list : List Item) (before after : Meaning) (result : Result (Unit {0}) NoMemory) → Takes list before after result → Writes list before after result
 writes_took list before after (Ok done) t = t
@@ -93,6 +98,11 @@ writes_first a b before after refused w = front_first a b before after w
 pub writes_as : (a b : List Item) (before after : Meaning) (result : Result (Unit {0}) NoMemory) → a ≡ b → Writes a before after result → Writes b before after result
 writes_as a b before after result e w = subst (λ l. Writes l before after result) e w
 
+-- where `?` returns early
+pub writes_at_err : (list : List Item) (before after : Meaning) (Q : NoMemory → Type 0) (result : Result (Unit {0}) NoMemory) →
+    IsErrAnd result Q → TookFront list before after → Writes list before after result
+writes_at_err list before after Q result e t = let p = err_from_is_err_and result e in rw p.1 t
+
 -- ---- phases
 
 pub open_as : (phase other : Phase) → phase ≡ other → IsOpen other → IsOpen phase
@@ -102,3 +112,26 @@ pub phase_then-append : (phase : Phase) (a b : List Item) → phase_then phase (
 phase_then-append phase [] b = refl
 phase_then-append phase (items.Bin x ∷ a) b = phase_then-append (phase_after x.place x.value) a b
 phase_then-append phase (items.Sample x ∷ a) b = phase_then-append Filled a b
+
+after_samples : (phase : Phase) (samples : List ℕ) → phase ≡ Filled → phase_then phase (sample_items samples) ≡ Filled
+after_samples phase [] e = e
+after_samples phase (x ∷ samples) e = after_samples Filled samples refl
+
+pub phase_then-samples : (phase : Phase) (list : List Item) (samples : List ℕ) → 0 < length samples → phase_then phase (list ++ sample_items samples) ≡ Filled
+phase_then-samples phase list [] h = absurd (omega arith)
+phase_then-samples phase list (x ∷ samples) h = phase_then-append phase list (sample_items (x ∷ samples)) ∙ after_samples Filled samples refl
+
+-- ---- the same with one item in front
+
+pub grew_next : (item : Item) (b : List Item) (before between after : Meaning) → Grew (item ∷ []) before between → Grew b between after → Grew (item ∷ b) before after
+grew_next item b before between after g h = grew_then (item ∷ []) b before between after g h
+
+pub front_next : (item : Item) (b : List Item) (before between after : Meaning) → Grew (item ∷ []) before between → TookFront b between after → TookFront (item ∷ b) before after
+front_next item b before between after g f = front_then (item ∷ []) b before between after g f
+
+pub writes_next : (item : Item) (b : List Item) (before between after : Meaning) (result : Result (Unit {0}) NoMemory) →
+    Grew (item ∷ []) before between → Writes b between after result → Writes (item ∷ b) before after result
+writes_next item b before between after result g w = writes_then (item ∷ []) b before between after result g w
+
+-- for `search` in callers
+pub ruleset steps = (open_as, grew_then, grew_next, front_then, front_next, front_first, front_kept, writes_then, writes_next, writes_took, writes_at_err)

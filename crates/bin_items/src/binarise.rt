@@ -81,7 +81,7 @@ fn write_ones<S: BinSink>(sink: &mut S, count: u32) -> Result<(), NoMemory>
     let mut left = count;
     while left > 0 {
         let some = left.min(16);
-        sink.bypass(0xFFFF >> (16 - some), some)?;
+        sink.bypass((1 << some) - 1, some)?;
         left -= some;
     }
     Ok(())

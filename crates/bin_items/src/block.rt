@@ -1,6 +1,6 @@
 //! Square blocks of levels.
 ghost use Rattle.std.specs.Prelude.{◌≡◌, ◌≤◌, ◌<◌, ◌^◌, length, replicate, get_or, set, pos};
-ghost use Rattle.bin_items.specs.Square.{area, place};
+ghost use Rattle.bin_items.specs.Square.{area, place, with_row};
 
 use std::marker::Model;
 
@@ -64,6 +64,16 @@ impl Block {
         ensures { self.new ≡ record self.old { levels = set self.old.levels (place self.old.log2 x y) value } }
     {
         self.values[((y << self.log2) + x) as usize] = value;
+    }
+
+    /// Sets the numbers of row `y`, of which there are as many as the side is long.
+    pub fn set_row(&mut self, y: u32, row: &[i16])
+        requires in_block { y < 2 ^ self.old.log2 }
+        requires as_many { length row.now ≡ 2 ^ self.old.log2 }
+        ensures { self.new ≡ record self.old { levels = with_row self.old.log2 y row.now self.old.levels } }
+    {
+        let at = (y << self.log2) as usize;
+        self.values[at..at + row.len()].copy_from_slice(row);
     }
 
     /// All numbers, in rows from the top.

@@ -1,8 +1,7 @@
-use Rattle.std.proofs.Common.{rules, ◌≡◌, ◌≤◌, ◌<◌, [], ◌∷◌, refl, ap, sym, ◌∙◌, length, ℕ, ◌+◌, ◌-◌, ◌*◌, ◌/◌, ◌%◌, Bool, true, false, nat_eq, nat_lt, List, ◌++◌, bit_and, arith}
+use Rattle.std.proofs.Common.{◌≡◌, arith}
 use Rattle.h265_model.specs.Binarise.{bypass_bins, fl}
 use Rattle.h265_model.specs.Bits.{u}
-use Rattle.h265_model.specs.declared.Item.TheVariants as items
-use Rattle.bin_items.specs.Growth.{Meaning, IsOpen, Takes, Writes, TookAllBut}
+use Rattle.bin_items.specs.Growth.{TookAllBut}
 use Rattle.bin_items.proofs.Growing.{took_one_more, took_as, took_all, open_as}
 use Rattle.bin_items.proofs.Bits.{first_bin}
 use Rattle.bin_items.proofs.sink.BinSink.bypass.Goals as goal

@@ -1,0 +1,21 @@
+use Rattle.std.proofs.Common.{SFits, w16, rules, ◌+◌, ◌*◌, ◌^◌, ◌%◌, ◌∙◌, get_or, pos, refl, arith}
+use Rattle.std.proofs.lemmas.Int.{to_z-of_z}
+use Rattle.bin_items.proofs.Places.{found, level}
+use Rattle.bin_items.proofs.block.Block.get.Goals as goal
+
+pub bounds-self-inside-y : goal.bounds-self-inside-y
+bounds-self-inside-y c =
+    let b = c.self.inside in
+    let f = found b.log2 c.args.x c.args.y c.self.invariant.0 c.self.invariant.1 (rw (← c.self.view_is) at c.requires.column) (rw (← c.self.view_is) at c.requires.row) in
+    let e = f.is_place in
+    let w = f.within in
+    let s = f.small in
+    omega arith
+
+pub returns : goal.returns
+returns c =
+    let b = c.self.inside in
+    let f = found b.log2 c.args.x c.args.y c.self.invariant.0 c.self.invariant.1 (rw (← c.self.view_is) at c.requires.column) (rw (← c.self.view_is) at c.requires.row) in
+    let i = c.args.y * 2 ^ b.log2 % 2 ^ 32 + c.args.x in
+    let fits : SFits w16 (get_or b.values i (pos 0)) = search rules in
+    to_z-of_z w16 (get_or b.values i (pos 0)) fits ∙ (rw (← c.self.view_is) (level b.log2 c.args.x c.args.y i b.values _ f refl))
