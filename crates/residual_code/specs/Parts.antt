@@ -1,10 +1,11 @@
 -- A block's levels by sub-blocks, each as 16 levels in rows, and what is written of each.
-use Rattle.std.specs.Prelude.{◌≡◌, ◌≤◌, ◌<◌, ℕ, zero, suc, ◌+◌, ◌*◌, ◌-◌, ◌^◌, Bool, true, false, not, ◌||◌, ◌&&◌, List, [], ◌∷◌, ◌++◌, length, get_or, ◌==◌, if◌then◌else◌, ℤ, pos}
+use Rattle.std.specs.Prelude.{◌≡◌, ◌≤◌, ◌<◌, ℕ, zero, suc, ◌+◌, ◌*◌, ◌-◌, ◌^◌, Bool, true, false, not, ◌||◌, ◌&&◌, List, [], ◌∷◌, ◌++◌, length, get_or, ◌==◌, nat_le, nat_lt, if◌then◌else◌, ℤ, pos}
 use Rattle.h265_model.specs.declared.Item.{Item}
 use Rattle.h265_model.specs.Plain.{context_bin, place_values}
+use Rattle.h265_model.specs.Binarise.{bypass_bins, remaining}
 use Rattle.h265_model.specs.Bits.{digit}
 use Rattle.h265_model.specs.Residual as residual
-use Rattle.h265_model.specs.Residual.{place_at, scan, sub_scan, level_at, Sub, cbf, sig_items, value_items, set_of, nonzero, flag_context}
+use Rattle.h265_model.specs.Residual.{place_at, scan, sub_scan, level_at, Sub, cbf, sig_items, value_items, set_of, nonzero, flag_context, is_implied, is_zero, sig_at, rice_after}
 use Rattle.residual_code.specs.declared.shape.Shape.{Shape}
 use Rattle.residual_code.specs.declared.shape.SubBlock.{SubBlock}
 
@@ -78,3 +79,16 @@ least_of (suc left) seen = if seen then 2 else 3
 -- the set of contexts of a sub-block's greater1 flags
 abbrev pub set_number : ℕ → ℕ → Bool → ℕ
 set_number component number ended = (if component == 0 && not (number == 0) then 2 else 0) + digit ended
+
+-- what is written of the flag of the level with this number in its sub-block
+abbrev pub sig_part : residual.Shape → Sub → Bool → Bool → ℕ → ℤ → List Item
+sig_part s sub inner found number level =
+    if is_implied inner found number then [] else context_bin (not (is_zero level)) (sig_at s sub number) ∷ []
+
+-- what is written of sizes past what their flags tell: with the Rice parameter, whether an earlier size was above 1, and how many levels
+-- with greater1 flags are left
+abbrev pub rests_from : ℕ → Bool → ℕ → List ℕ → List Item
+rests_from rice seen left [] = []
+rests_from rice seen left (size ∷ sizes) =
+    (if nat_le (least_of left seen) size then bypass_bins (remaining rice (size - least_of left seen)) else [])
+    ++ rests_from (if nat_le (least_of left seen) size then rice_after rice size else rice) (seen || nat_lt 1 size) (left - 1) sizes

@@ -8,7 +8,7 @@ ghost use Rattle.residual_code.specs.Parts.{IsShape, IsSubBlock, shape_of, sub_o
 use crate::last::write_last;
 use crate::shape::{Shape, SubBlock};
 use crate::subs::{mark_of, write_levels, write_subs};
-use crate::tile::{is_empty, load};
+use crate::tile::{is_empty, is_level, level_at, load};
 use arrayvec::ArrayVec;
 use bin_items::{BinSink, Block, NoMemory};
 use scan_orders::places;
@@ -19,7 +19,7 @@ fn any_level(levels: &[i16]) -> bool
 {
     let mut some = false;
     for level in levels {
-        some |= *level != 0;
+        some |= is_level(*level);
     }
     some
 }
@@ -79,8 +79,7 @@ fn last_level(tile: &[i16; 16], scan: u32) -> usize
     let mut left = 16;
     while left > 0 {
         left -= 1;
-        let (x, y) = order[left];
-        if tile[4 * y as usize + x as usize] != 0 {
+        if is_level(level_at(tile, order[left])) {
             return left;
         }
     }
@@ -107,14 +106,17 @@ fn write_from<S: BinSink>(
     ensures not_ended { IsOpen (S.phase sink.new) }
 {
     let last = last_level(tile, shape.scan);
-    let (x, y) = places(shape.scan, 2)[last];
+    let place = places(shape.scan, 2)[last];
     write_last(
         sink,
         shape,
-        (4 * sub.x + u32::from(x), 4 * sub.y + u32::from(y)),
+        (
+            4 * sub.x + u32::from(place.0),
+            4 * sub.y + u32::from(place.1),
+        ),
     )?;
     let mut values = ArrayVec::new();
-    values.push(tile[4 * y as usize + x as usize]);
+    values.push(level_at(tile, place));
     let mut ended = false;
     write_levels(sink, shape, sub, tile, last, false, &mut values, &mut ended)?;
     let mut marks = [false; 81];

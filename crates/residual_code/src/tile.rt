@@ -1,7 +1,7 @@
 //! The 16 levels of a sub-block.
 ghost use Rattle.std.specs.Prelude.{◌≡◌, ℕ, ◌<◌, ◌≤◌, ◌*◌, ◌^◌, ◌-◌, length, not};
-ghost use Rattle.h265_model.specs.Residual.{cbf};
-ghost use Rattle.residual_code.specs.Parts.{IsShape, shape_of, sub_tile, tile_levels};
+ghost use Rattle.h265_model.specs.Residual.{cbf, is_zero};
+ghost use Rattle.residual_code.specs.Parts.{IsShape, shape_of, sub_tile, tile_at, tile_levels};
 
 use crate::shape::Shape;
 
@@ -23,6 +23,24 @@ pub(crate) fn load(levels: &[i16], shape: Shape, x: u32, y: u32) -> [i16; 16]
     tile
 }
 
+/// The level at a column and a row of a sub-block.
+#[inline(always)]
+pub(crate) fn level_at(tile: &[i16; 16], place: (u8, u8)) -> i16
+    requires column { place.0 < 4 }
+    requires row { place.1 < 4 }
+    ensures { result ≡ tile_at tile.now place }
+{
+    tile[4 * place.1 as usize + place.0 as usize]
+}
+
+/// Whether a level isn't 0.
+#[inline(always)]
+pub(crate) fn is_level(level: i16) -> bool
+    ensures { result ≡ not (is_zero level) }
+{
+    level != 0
+}
+
 /// Whether all 16 levels are 0.
 #[inline(always)]
 pub(crate) fn is_empty(tile: &[i16; 16]) -> bool
@@ -30,7 +48,7 @@ pub(crate) fn is_empty(tile: &[i16; 16]) -> bool
 {
     let mut some = false;
     for level in tile {
-        some |= *level != 0;
+        some |= is_level(*level);
     }
     !some
 }

@@ -1,0 +1,68 @@
+-- The place of the last level, in prefixes and suffixes.
+use Rattle.std.proofs.Common.{◌≡◌, refl, sym, ◌∙◌, ap, ℕ, zero, suc, ◌+◌, ◌-◌, ◌*◌, ◌/◌, ◌%◌, ◌^◌, ◌<◌, ◌≤◌, Bool, true, false, cond, ◌&&◌, List, [], ◌∷◌, ◌++◌, arith}
+use Rattle.std.specs.Prelude.{◌==◌, nat_lt, nat_le}
+use Rattle.std.proofs.lemmas.Bool.{agree_below, agree_below_at, and_parts, leb-true}
+use Rattle.h265_model.specs.declared.Item.{Item}
+use Rattle.h265_model.specs.Plain.{context_bin}
+use Rattle.h265_model.specs.Bits.{u}
+use Rattle.h265_model.specs.Binarise.{tr, fl, context_bins, bypass_bins}
+use Rattle.h265_model.specs.Residual.{prefix_of, suffix_bits, suffix_base, swapped}
+
+pub prefix_more : (number : ℕ → ℕ) (i limit prefix context : ℕ) → i < prefix → prefix ≤ limit → context ≡ number i →
+    context_bins number i (tr (limit - i) (prefix - i)) ≡ context_bin true context ∷ context_bins number (i + 1) (tr (limit - (i + 1)) (prefix - (i + 1)))
+prefix_more number i limit prefix context h k c =
+    let l : limit - i ≡ suc (limit - (i + 1)) = omega arith in
+    let p : prefix - i ≡ suc (prefix - (i + 1)) = omega arith in
+    let n : i + 1 ≡ suc i = omega arith in
+    let t : tr (limit - i) (prefix - i) ≡ true ∷ tr (limit - (i + 1)) (prefix - (i + 1)) = ap (λ m. tr m (prefix - i)) l ∙ ap (λ m. tr (suc (limit - (i + 1))) m) p in
+    ap (context_bins number i) t ∙ (ap (λ m. context_bin true m ∷ context_bins number (suc i) (tr (limit - (i + 1)) (prefix - (i + 1)))) (sym c)
+    ∙ ap (λ m. context_bin true context ∷ context_bins number m (tr (limit - (i + 1)) (prefix - (i + 1)))) (sym n))
+
+pub prefix_ended : (number : ℕ → ℕ) (i limit prefix context : ℕ) → i ≡ prefix → prefix < limit → context ≡ number prefix →
+    context_bins number i (tr (limit - i) (prefix - i)) ≡ context_bin false context ∷ []
+prefix_ended number i limit prefix context e h c =
+    let l : limit - i ≡ suc (limit - (i + 1)) = omega arith in
+    let p : prefix - i ≡ zero = omega arith in
+    rw (l, p, c, e) refl
+
+pub prefix_whole : (number : ℕ → ℕ) (i limit prefix : ℕ) → i ≡ prefix → limit ≤ prefix → prefix ≤ limit → context_bins number i (tr (limit - i) (prefix - i)) ≡ []
+prefix_whole number i limit prefix e h k = let l : limit - i ≡ zero = omega arith in rw l refl
+
+pub no_suffix : (prefix value : ℕ) → prefix < 4 → bypass_bins (fl (suffix_bits prefix) value) ≡ []
+unfolding u
+no_suffix prefix value h = let e : suffix_bits prefix ≡ zero = omega arith in rw e refl
+
+-- ---- prefixes of the coordinates that occur
+
+fits : ℕ → ℕ → Bool
+fits log2 v = nat_le (suffix_base (prefix_of v)) v && (nat_le (prefix_of v) 9 && nat_le (prefix_of v) (2 * log2 - 1))
+
+all_fit : (log2 : ℕ) → 3 ≤ log2 → log2 ≤ 5 → agree_below (fits log2) (λ v. true) (2 ^ log2) ≡ true
+unfolding fits
+all_fit zero h k = absurd (omega arith)
+all_fit (suc zero) h k = absurd (omega arith)
+all_fit (suc (suc zero)) h k = absurd (omega arith)
+all_fit (suc (suc (suc zero))) h k = refl
+all_fit (suc (suc (suc (suc zero)))) h k = refl
+all_fit (suc (suc (suc (suc (suc zero))))) h k = refl
+all_fit (suc (suc (suc (suc (suc (suc n)))))) h k = absurd (omega arith)
+
+pub record IsSplit (log2 v : ℕ) : Type 0 where
+  pub base : suffix_base (prefix_of v) ≤ v
+  pub low : prefix_of v ≤ 9
+  pub within : prefix_of v ≤ 2 * log2 - 1
+
+pub split : (log2 v : ℕ) → 3 ≤ log2 → log2 ≤ 5 → v < 2 ^ log2 → IsSplit log2 v
+unfolding fits
+split log2 v low high h =
+    let fit : fits log2 v ≡ true = agree_below_at (fits log2) (λ w. true) (2 ^ log2) v (all_fit log2 low high) h in
+    let a = and_parts _ _ fit in
+    let b = and_parts _ _ a.1 in
+    record { base = leb-true _ _ a.0; low = leb-true _ _ b.0; within = leb-true _ _ b.1 }
+
+pub swapped_low : (kind n : ℕ) (p : ℕ × ℕ) → p.0 < n → p.1 < n → ((swapped kind p).0 < n) × ((swapped kind p).1 < n)
+swapped_low kind n p h k = go (kind == 2)
+  where
+    go : (b : Bool) → ((cond b (p.1, p.0) p).0 < n) × ((cond b (p.1, p.0) p).1 < n)
+    go true = (k, h)
+    go false = (h, k)

@@ -1,0 +1,10 @@
+pub mod Zeros
+pub mod Down
+pub mod Places
+pub mod Codes
+pub mod Bounds
+pub mod Sizes
+pub mod Signs
+pub mod LastLaws
+pub mod FlagLaws
+pub mod Tiles

@@ -1,0 +1,64 @@
+-- Levels that are 0, and lists of them.
+use Rattle.std.proofs.Common.{◌≡◌, refl, sym, ◌∙◌, ap, ℕ, zero, suc, ◌+◌, ◌<◌, ◌≤◌, Bool, true, false, not, ◌||◌, List, [], ◌∷◌, ◌++◌, length, take, drop, get_or, arith}
+use Rattle.std.specs.Prelude.{ℤ, pos, negsuc, nat_abs}
+use Rattle.std.specs.List.{list_any}
+use Rattle.h265_model.specs.Residual.{is_zero, cbf, nonzero, AreLevels}
+
+abbrev pub flag_of : ℤ → Bool
+flag_of v = not (is_zero v)
+
+pub zero_is : (v : ℤ) → is_zero v ≡ true → v ≡ pos 0
+zero_is (pos zero) h = refl
+zero_is (pos (suc n)) h = absurd (cc)
+zero_is (negsuc n) h = absurd (cc)
+
+pub is_zero_at : (v : ℤ) → v ≡ pos 0 → is_zero v ≡ true
+is_zero_at v e = ap is_zero e
+
+pub flag_at : (v : ℤ) → (v ≡ pos 0 → ⊥) → flag_of v ≡ true
+flag_at (pos zero) h = absurd (h refl)
+flag_at (pos (suc n)) h = refl
+flag_at (negsuc n) h = refl
+
+-- ---- whether one isn't 0
+
+abbrev pub any_level : List ℤ → Bool
+any_level levels = list_any flag_of levels
+
+pub any-append : (a b : List ℤ) → any_level (a ++ b) ≡ (any_level a || any_level b)
+any-append [] b = refl
+any-append (v ∷ a) b = go (flag_of v) (any-append a b)
+  where
+    go : (f : Bool) → any_level (a ++ b) ≡ (any_level a || any_level b) → (f || any_level (a ++ b)) ≡ ((f || any_level a) || any_level b)
+    go true e = refl
+    go false e = e
+
+pub any_at : (levels : List ℤ) (i : ℕ) → flag_of (get_or levels i (pos 0)) ≡ true → any_level levels ≡ true
+any_at [] i h = absurd (cc)
+any_at (v ∷ levels) zero h = go (flag_of v) h
+  where
+    go : (f : Bool) → f ≡ true → (f || any_level levels) ≡ true
+    go true e = refl
+    go false e = absurd (cc)
+any_at (v ∷ levels) (suc i) h = go (flag_of v) (any_at levels i h)
+  where
+    go : (f : Bool) → any_level levels ≡ true → (f || any_level levels) ≡ true
+    go true e = refl
+    go false e = e
+
+pub none_at : (levels : List ℤ) → any_level levels ≡ false → (i : ℕ) → get_or levels i (pos 0) ≡ pos 0
+none_at [] h i = refl
+none_at (v ∷ levels) h zero = go (is_zero v) refl h
+  where
+    go : (f : Bool) → is_zero v ≡ f → (not f || any_level levels) ≡ false → v ≡ pos 0
+    go true e k = zero_is v e
+    go false e k = absurd (cc)
+none_at (v ∷ levels) h (suc i) = none_at levels (go (flag_of v) h) i
+  where
+    go : (f : Bool) → (f || any_level levels) ≡ false → any_level levels ≡ false
+    go true k = absurd (cc)
+    go false k = k
+
+pub none_of : (levels : List ℤ) → ((i : ℕ) → i < length levels → get_or levels i (pos 0) ≡ pos 0) → any_level levels ≡ false
+none_of [] h = refl
+none_of (v ∷ levels) h = let e : is_zero v ≡ true = ap is_zero (h 0 (omega arith)) in rw e (none_of levels (λ i k. h (suc i) (omega arith)))
