@@ -10,7 +10,7 @@ use Rattle.h265_model.specs.Residual.{Sub, sig_items, sig_at, is_implied, is_zer
 use Rattle.residual_code.specs.declared.shape.Shape.{Shape}
 use Rattle.residual_code.specs.declared.shape.SubBlock.{SubBlock}
 use Rattle.residual_code.specs.Parts.{shape_of, sub_of, IsShape, IsSubBlock, sub_count, tile_at, tile_levels, has_members, sig_part, down}
-use Rattle.residual_code.proofs.Down.{length-down, down_first}
+use Rattle.residual_code.proofs.Down.{length-down, down_first, down_none}
 use Rattle.residual_code.proofs.Places.{IsPlaced, placed}
 
 pub sub_low : (s : Shape) (b : SubBlock) → IsShape s → IsSubBlock s b → (b.x < 2 ^ (s.log2 - 2)) × (b.y < 2 ^ (s.log2 - 2))
@@ -81,3 +81,12 @@ pub part_is : (s : Shape) (b : SubBlock) (k : ℕ) (p : ℕ × ℕ) (inner impli
     ≡ sig_part (shape_of s) (sub_of b) inner (has_members values) k (tile_at tile (place_at (scan s.scan 2) k))
 part_is s b k p inner implied empty flag values tile level at e l f i m =
     rw (f, i, l, m, no_members values, at.x, at.y) (rw e refl)
+
+pub no_flags : (s : residual.Shape) (sub : Sub) (inner found : Bool) (tile : List ℤ) (left : ℕ) → left ≤ 0 → sig_items s sub inner found (tile_levels s.scan tile left) ≡ []
+no_flags s sub inner found tile left h = let z : left ≡ 0 = omega arith in rw (z, down_none (λ i. tile_at tile (place_at (scan s.scan 2) i))) refl
+
+pub values_done : (kind : ℕ) (tile values whole : List ℤ) (left : ℕ) → left ≤ 0 → values ++ nonzero (tile_levels kind tile left) ≡ whole → values ≡ whole
+values_done kind tile values whole left h e =
+    let z : left ≡ 0 = omega arith in
+    let n : nonzero (tile_levels kind tile left) ≡ [] = rw (z, down_none (λ i. tile_at tile (place_at (scan kind 2) i))) refl in
+    sym (append-nil values) ∙ (ap (λ l. values ++ l) (sym n) ∙ e)

@@ -8,3 +8,7 @@ pub mod Signs
 pub mod LastLaws
 pub mod FlagLaws
 pub mod Tiles
+pub mod MarkLaws
+pub mod SubLaws
+pub mod LevelLaws
+pub mod LoadLaws

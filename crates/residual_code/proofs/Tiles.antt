@@ -9,6 +9,7 @@ use Rattle.residual_code.proofs.Places.{number_found, covered, scan_long, IsPlac
 
 -- none of the values below a bound is a level
 pub down_none : (f : ℕ → ℤ) (n : ℕ) → ((i : ℕ) → i < n → f i ≡ pos 0) → any_level (down f n) ≡ false
+unfolding down
 down_none f zero h = refl
 down_none f (suc n) h = let e : is_zero (f n) ≡ true = is_zero_at (f n) (h n (omega arith)) in rw e (down_none f n (λ i k. h i (omega arith)))
 
@@ -20,6 +21,7 @@ first_none v levels h = go (is_zero v) refl h
     go false e k = absurd (cc)
 
 pub none_down : (f : ℕ → ℤ) (n : ℕ) → any_level (down f n) ≡ false → (i : ℕ) → i < n → f i ≡ pos 0
+unfolding down
 none_down f zero h i k = absurd (omega arith)
 none_down f (suc n) h i k =
     let p : (f n ≡ pos 0) × (any_level (down f n) ≡ false) = first_none (f n) (down f n) h in

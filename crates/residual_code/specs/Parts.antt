@@ -35,7 +35,7 @@ pub record IsSubBlock (s : Shape) (b : SubBlock) : Type 0 where
   pub y : b.y ≡ (place_at (sub_scan (shape_of s)) b.number).1
 
 -- the values of f at the numbers below n, the greatest first
-abbrev pub down : {A : Type 0} → (ℕ → A) → ℕ → List A
+unfoldable pub down : {A : Type 0} → (ℕ → A) → ℕ → List A
 down f zero = []
 down f (suc k) = f k ∷ down f k
 

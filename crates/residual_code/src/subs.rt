@@ -1,6 +1,6 @@
 //! Sub-blocks, the last of the scan first.
-ghost use Rattle.std.specs.Prelude.{◌≡◌, ◌<◌, ◌≤◌, ◌+◌, ◌*◌, ◌-◌, ◌^◌, ◌++◌, ◌∷◌, List, Bool, length, false, OnOk};
-ghost use Rattle.h265_model.specs.Residual.{sub_at, sig_items, value_items, set_of, nonzero, ended_at_zero, sub_items, AreLevels};
+ghost use Rattle.std.specs.Prelude.{◌≡◌, ◌<◌, ◌≤◌, ◌+◌, ◌*◌, ◌-◌, ◌^◌, ◌++◌, ◌∷◌, List, Bool, length, map, nat_abs, is_some, OnOk};
+ghost use Rattle.h265_model.specs.Residual.{sub_at, sig_items, value_items, set_of, nonzero, ended_at_zero, sub_items, AreLevels, has_flag, greater1_flags};
 ghost use Rattle.bin_items.specs.Growth.{IsOpen, Writes};
 ghost use Rattle.residual_code.specs.Parts.{IsShape, IsSubBlock, shape_of, sub_of, sub_count, tile_levels, sub_levels, has_members, down, is_coded, sub_part, set_number};
 ghost use Rattle.residual_code.specs.Marks.{AreMarks, mark_place};
@@ -71,10 +71,21 @@ pub(crate) fn write_levels<S: BinSink>(
     write_flags(sink, shape, sub, tile, top, inner, values)?;
     let set = set_of(shape.component, sub.number, *ended);
     let large = first_large(values.as_slice());
-    if !values.is_empty() {
-        *ended = large.is_some();
-    }
+    *ended = ended_after(*ended, values.as_slice(), large);
     write_values(sink, shape.component, set, values.as_slice(), large)
+}
+
+// Whether the counter of greater1 flags ended at 0 in the latest sub-block with levels, of those before and this one.
+#[inline(always)]
+fn ended_after(before: bool, values: &[i16], large: Option<u16>) -> bool
+    requires { is_some large ≡ has_flag (greater1_flags 8 (map nat_abs values.now)) }
+    ensures { result ≡ ended_at_zero before values.now }
+{
+    if values.is_empty() {
+        before
+    } else {
+        large.is_some()
+    }
 }
 
 // The set of contexts of a sub-block's greater1 flags (9.3.4.2.6).

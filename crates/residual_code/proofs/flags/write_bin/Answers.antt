@@ -11,4 +11,4 @@ sig_context-context-requires-clause-sub_y g c = (sub_low c.args.shape c.args.sub
 
 pub bin-requires-clause-in_range : goal.bin-requires-clause-in_range
 bin-requires-clause-in_range g c =
-    rw c.sig_context-context.ensures (sig_low c.args.shape.component c.args.shape.log2 c.args.shape.scan c.args.sub.x c.args.sub.y c.args.x c.args.y c.args.sub.right c.args.sub.below)
+    rw c.sig_context-context.ensures (sig_low c.args.shape.component c.args.shape.log2 c.args.shape.scan c.args.sub.x c.args.sub.y c.from.result c.from-2.result c.args.sub.right c.args.sub.below)
