@@ -2,10 +2,13 @@
 use Rattle.std.proofs.Common.{◌≡◌, refl, sym, ◌∙◌, ap, ℕ, zero, suc, ◌+◌, ◌*◌, ◌^◌, ◌<◌, ◌≤◌, Bool, true, false, map, List, [], ◌∷◌, ◌++◌, length, get_or, arith}
 use Rattle.std.specs.Prelude.{ℤ, pos, negsuc, nat_abs, ◌==◌}
 use Rattle.h265_model.specs.Residual as residual
-use Rattle.h265_model.specs.Residual.{AreLevels, nonzero, level_at, place_at, scan, counted_all, has_flag, ended_at_zero, greater1_flags}
+use Rattle.h265_model.specs.Residual.{AreLevels, nonzero, level_at, place_at, scan, counted_all, has_flag, ended_at_zero, greater1_flags, value_items}
 use Rattle.std.proofs.lemmas.Bool.Decides.{nat_tests}
 use Rattle.residual_code.specs.Parts.{down, tile_at, tile_levels, sub_tile}
+use Rattle.std.specs.Prelude.{Result, Ok, Err, OnOk}
+use Rattle.h265_model.specs.declared.memory.NoMemory.{NoMemory}
 use Rattle.residual_code.proofs.Sizes.{size_high}
+use Rattle.residual_code.proofs.FlagLaws.{nonzero-append}
 
 pub tile_high : (s : residual.Shape) (block : List ℤ) (sub : ℕ × ℕ) → AreLevels block → AreLevels (sub_tile s block sub)
 tile_high s block sub h =
@@ -56,3 +59,14 @@ ended_none before (v ∷ values) h = absurd (omega arith)
 pub ended_some : (before flag : Bool) (values : List ℤ) → 0 < length values → flag ≡ has_flag (greater1_flags 8 (map nat_abs values)) → flag ≡ ended_at_zero before values
 ended_some before flag [] h e = absurd (omega arith)
 ended_some before flag (v ∷ values) h e = e ∙ sym (counted_some 0 (greater1_flags 8 (map nat_abs (v ∷ values))))
+
+pub values_nonzero : (values levels : List ℤ) → nonzero values ≡ values → nonzero (values ++ nonzero levels) ≡ values ++ nonzero levels
+values_nonzero values levels h =
+    nonzero-append values (nonzero levels) ∙ (ap (λ l. l ++ nonzero (nonzero levels)) h ∙ ap (λ l. values ++ l) (nonzero_twice levels))
+
+pub on_ok : {P : Type 0} (r : Result (Unit {0}) NoMemory) → P → OnOk r P
+on_ok (Ok done) h = h
+on_ok (Err refused) h = tt
+
+pub value_items_as : (component set other : ℕ) (values more : List ℤ) → set ≡ other → values ≡ more → value_items component set values ≡ value_items component other more
+value_items_as component set other values more e f = rw (e, f) refl

@@ -12,3 +12,5 @@ pub mod MarkLaws
 pub mod SubLaws
 pub mod LevelLaws
 pub mod LoadLaws
+pub mod SubSteps
+pub mod StepLaws

@@ -2,10 +2,12 @@
 use Rattle.std.proofs.Common.{◌≡◌, ◌≢◌, refl, sym, ◌∙◌, ap, subst, ℕ, zero, suc, ◌+◌, ◌-◌, ◌*◌, ◌^◌, ◌<◌, ◌≤◌, Bool, true, false, ◌⊎◌, inl, inr, List, [], ◌∷◌, length, get_or, set, replicate, get_or-set_other, get_or-set_same, arith}
 use Rattle.std.proofs.Math.Nat.{eq-or-lt_of_le}
 use Rattle.h265_model.specs.Residual as residual
-use Rattle.h265_model.specs.Residual.{number_of, place_at, scan, sub_scan, sub_at, Sub}
+use Rattle.h265_model.specs.Residual.{number_of, place_at, scan, sub_scan, sub_at, Sub, sub_block_context}
+use Rattle.h265_model.specs.Plain.{context_bin}
+use Rattle.std.specs.Prelude.{◌==◌}
 use Rattle.residual_code.specs.declared.shape.Shape.{Shape}
 use Rattle.residual_code.specs.declared.shape.SubBlock.{SubBlock}
-use Rattle.residual_code.specs.Parts.{IsShape, IsSubBlock, shape_of, sub_of, sub_count}
+use Rattle.residual_code.specs.Parts.{IsShape, IsSubBlock, shape_of, sub_of, sub_count, flag_part}
 use Rattle.residual_code.specs.Marks.{AreMarks, mark_place}
 use Rattle.residual_code.proofs.Places.{IsPlaced, placed, number_found, scan_long}
 
@@ -20,8 +22,8 @@ marks_none s number = record { each = λ x y wide tall h. all_false 81 (mark_pla
 -- what is known of a sub-block's place
 pub record IsSub (s : Shape) (number x y : ℕ) : Type 0 where
   pub numbered : number_of x y (sub_scan (shape_of s)) ≡ number
-  pub x : x < 8
-  pub y : y < 8
+  pub wide : x < 8
+  pub tall : y < 8
   pub right : number + 1 ≤ number_of (x + 1) y (sub_scan (shape_of s))
   pub below : number + 1 ≤ number_of x (y + 1) (sub_scan (shape_of s))
 
@@ -41,8 +43,8 @@ is_sub s number x y is h e f =
     let b : number < number_of (place_at (sub_scan (shape_of s)) number).0 ((place_at (sub_scan (shape_of s)) number).1 + 1) (sub_scan (shape_of s)) = p.below in
     rw (e, f) (record {
       numbered = p.number;
-      x = side_low (s.log2 - 2) _ (omega arith) p.x;
-      y = side_low (s.log2 - 2) _ (omega arith) p.y;
+      wide = side_low (s.log2 - 2) _ (omega arith) p.x;
+      tall = side_low (s.log2 - 2) _ (omega arith) p.y;
       right = omega arith;
       below = omega arith;
     })
@@ -54,8 +56,8 @@ pub sub_known : (s : Shape) (number x y : ℕ) (flags marks : List Bool) (b : Su
     → b.number ≡ number → b.right ≡ get_or marks (mark_place (x + 1) y) false → b.below ≡ get_or marks (mark_place x (y + 1)) false
     → AreMarks (shape_of s) (number + 1) flags marks → sub_of b ≡ sub_at (shape_of s) number flags
 sub_known s number x y flags marks b at ex ey n r l are =
-    let wide : x < 8 = at.x in
-    let tall : y < 8 = at.y in
+    let wide : x < 8 = at.wide in
+    let tall : y < 8 = at.tall in
     let right : b.right ≡ get_or flags (number_of (x + 1) y (sub_scan (shape_of s)) - number - 1) false =
     r ∙ (are.each (x + 1) y (omega arith) (omega arith) at.right ∙ ap (λ i. get_or flags i false) (less_twice (number_of (x + 1) y (sub_scan (shape_of s))) number)) in
     let below : b.below ≡ get_or flags (number_of x (y + 1) (sub_scan (shape_of s)) - number - 1) false =
@@ -89,17 +91,21 @@ marks_more s number x y flags marks flag is few at ex ey long are = record {
         let q : place_at (sub_scan (shape_of s)) number ≡ (a, b) = ap (place_at (sub_scan (shape_of s))) e ∙ p in
         let xa : x ≡ a = ex ∙ ap (λ (c : ℕ × ℕ). c.0) q in
         let yb : y ≡ b = ey ∙ ap (λ (c : ℕ × ℕ). c.1) q in
-        let wide : x < 8 = at.x in
-        let tall : y < 8 = at.y in
+        let wide : x < 8 = at.wide in
+        let tall : y < 8 = at.tall in
         let z : number_of a b (sub_scan (shape_of s)) - number ≡ 0 = omega arith in
         rw (z, ← xa, ← yb) (get_or-set_same marks (mark_place x y) flag false (omega arith))
 
     other : (a b : ℕ) → a < 9 → b < 9 → number + 1 ≤ number_of a b (sub_scan (shape_of s)) → get_or (set marks (mark_place x y) flag) (mark_place a b) false ≡ get_or (flag ∷ flags) (number_of a b (sub_scan (shape_of s)) - number) false
     other a b wide tall later =
-        let wx : x < 8 = at.x in
+        let wx : x < 8 = at.wide in
         let ne : mark_place a b ≢ mark_place x y = λ e.
         let p : (a ≡ x) × (b ≡ y) = same_place a b x y wide (omega arith) e in
         let n : number_of a b (sub_scan (shape_of s)) ≡ number = ap (λ k. number_of k b (sub_scan (shape_of s))) p.0 ∙ (ap (λ k. number_of x k (sub_scan (shape_of s))) p.1 ∙ at.numbered) in
         omega arith in
         get_or-set_other marks (mark_place x y) (mark_place a b) flag false ne
         ∙ (are.each a b wide tall later ∙ ap (λ i. get_or (flag ∷ flags) i false) (sym (later_index (number_of a b (sub_scan (shape_of s))) number later)))
+
+pub flag_written : (s : Shape) (b : SubBlock) (coded : Bool) (context : ℕ) → (b.number == 0) ≡ false → context ≡ sub_block_context s.component b.right b.below
+    → context_bin coded context ∷ [] ≡ flag_part (shape_of s) (sub_of b) coded
+flag_written s b coded context e c = rw (c, e) refl

@@ -8,7 +8,7 @@ use Rattle.h265_model.specs.declared.Item.{Item}
 use Rattle.h265_model.specs.Plain.{context_bin, place_values}
 use Rattle.h265_model.specs.Residual as residual
 use Rattle.h265_model.specs.Residual.{scan, sub_scan, place_at, number_of, level_at, side, in_coding_order, residual_items, from_subs, from_last, without_leading_zeros, cbf, sub_items, sub_at, last_items, place_of, sig_items, value_items, set_of, nonzero, ended_at_zero, flag_context}
-use Rattle.residual_code.specs.Parts.{down, tile_at, tile_levels, sub_tile, sub_levels, sub_part, is_coded}
+use Rattle.residual_code.specs.Parts.{down, tile_at, tile_levels, sub_tile, sub_levels, sub_part, coded_at}
 use Rattle.residual_code.proofs.Zeros.{any_level, none_of}
 use Rattle.residual_code.proofs.Down.{length-down, down_first, down_none, down_same}
 use Rattle.residual_code.proofs.Places.{number_found, covered, scan_long}
@@ -68,18 +68,18 @@ from_is s F f n k v =
 -- one more sub-block before the last
 part_then : (s : residual.Shape) (number : ℕ) (flags : List Bool) (ended : Bool) (levels : List ℤ) (subs : List (List ℤ)) → length subs ≡ number →
     sub_items s flags ended (levels ∷ subs)
-    ≡ sub_part s (sub_at s number flags) ended levels ++ sub_items s (is_coded number levels ∷ flags) (ended_at_zero ended (nonzero levels)) subs
+    ≡ sub_part s (sub_at s number flags) ended levels ++ sub_items s (coded_at number levels ∷ flags) (ended_at_zero ended (nonzero levels)) subs
 part_then s number flags ended levels subs e =
     ap (λ m. cond (not (m == 0)) (context_bin (not (not (m == 0)) || cbf levels) (flag_context s (sub_at s m flags)) ∷ []) []
     ++ (cond (not (not (m == 0)) || cbf levels) (sig_items s (sub_at s m flags) (not (m == 0)) false levels ++ value_items s.component (set_of s m ended) (nonzero levels)) []
     ++ sub_items s ((not (not (m == 0)) || cbf levels) ∷ flags) (ended_at_zero ended (nonzero levels)) subs)) e
-    ∙ sym (append_assoc (cond (not (number == 0)) (context_bin (is_coded number levels) (flag_context s (sub_at s number flags)) ∷ []) [])
-    (cond (is_coded number levels) (sig_items s (sub_at s number flags) (not (number == 0)) false levels ++ value_items s.component (set_of s number ended) (nonzero levels)) [])
-    (sub_items s (is_coded number levels ∷ flags) (ended_at_zero ended (nonzero levels)) subs))
+    ∙ sym (append_assoc (cond (not (number == 0)) (context_bin (coded_at number levels) (flag_context s (sub_at s number flags)) ∷ []) [])
+    (cond (coded_at number levels) (sig_items s (sub_at s number flags) (not (number == 0)) false levels ++ value_items s.component (set_of s number ended) (nonzero levels)) [])
+    (sub_items s (coded_at number levels ∷ flags) (ended_at_zero ended (nonzero levels)) subs))
 
 pub sub_more : (s : residual.Shape) (F : ℕ → List ℤ) (flags : List Bool) (ended after : Bool) (left : ℕ) → 0 < left → after ≡ ended_at_zero ended (nonzero (F (left - 1))) →
     sub_items s flags ended (down F left)
-    ≡ sub_part s (sub_at s (left - 1) flags) ended (F (left - 1)) ++ sub_items s (is_coded (left - 1) (F (left - 1)) ∷ flags) after (down F (left - 1))
+    ≡ sub_part s (sub_at s (left - 1) flags) ended (F (left - 1)) ++ sub_items s (coded_at (left - 1) (F (left - 1)) ∷ flags) after (down F (left - 1))
 sub_more s F flags ended after left h e =
     rw e (ap (sub_items s flags ended) (down_first F left h) ∙ part_then s (left - 1) flags ended (F (left - 1)) (down F (left - 1)) (length-down F (left - 1)))
 

@@ -2,6 +2,8 @@
 use Rattle.std.proofs.Common.{◌≡◌, refl, sym, ◌∙◌, ap, ℕ, zero, suc, ◌+◌, ◌<◌, ◌≤◌, Bool, true, false, not, ◌||◌, List, [], ◌∷◌, ◌++◌, length, take, drop, get_or, arith}
 use Rattle.std.specs.Prelude.{ℤ, pos, negsuc, nat_abs}
 use Rattle.std.specs.List.{list_any}
+use Rattle.std.proofs.lemmas.List.{take-append-drop, take_all}
+use Rattle.std.proofs.Math.Seq.{take-add}
 use Rattle.h265_model.specs.Residual.{is_zero, cbf, nonzero, AreLevels}
 
 abbrev pub flag_of : ℤ → Bool
@@ -62,3 +64,25 @@ none_at (v ∷ levels) h (suc i) = none_at levels (go (flag_of v) h) i
 pub none_of : (levels : List ℤ) → ((i : ℕ) → i < length levels → get_or levels i (pos 0) ≡ pos 0) → any_level levels ≡ false
 none_of [] h = refl
 none_of (v ∷ levels) h = let e : is_zero v ≡ true = ap is_zero (h 0 (omega arith)) in rw e (none_of levels (λ i k. h (suc i) (omega arith)))
+
+-- ---- a list in parts of 64
+
+pub any_part : (levels : List ℤ) (at n : ℕ) → any_level (take n (drop at levels)) ≡ true → any_level levels ≡ true
+any_part levels at n h =
+    ap any_level (sym (take-append-drop at levels)) ∙ (any-append (take at levels) (drop at levels)
+    ∙ go (any_level (take at levels)) (ap any_level (sym (take-append-drop n (drop at levels))) ∙ (any-append (take n (drop at levels)) (drop n (drop at levels)) ∙ first (any_level (take n (drop at levels))) h)))
+  where
+    first : (a : Bool) → a ≡ true → (a || any_level (drop n (drop at levels))) ≡ true
+    first true e = refl
+    first false e = absurd (cc)
+
+    go : (a : Bool) → any_level (drop at levels) ≡ true → (a || any_level (drop at levels)) ≡ true
+    go true e = refl
+    go false e = e
+
+pub any_more : (levels : List ℤ) (at n more : ℕ) → more ≡ at + n → any_level (take at levels) ≡ false → any_level (take n (drop at levels)) ≡ false → any_level (take more levels) ≡ false
+any_more levels at n more e h k =
+    rw (e, take-add at n levels) (any-append (take at levels) (take n (drop at levels)) ∙ rw (h, k) refl)
+
+pub any_done : (levels : List ℤ) (at : ℕ) → length levels ≤ at → any_level (take at levels) ≡ false → false ≡ any_level levels
+any_done levels at h e = sym (ap any_level (sym (take_all at levels h)) ∙ e)

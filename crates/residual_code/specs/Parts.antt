@@ -61,15 +61,19 @@ has_members [] = false
 has_members (v ∷ values) = true
 
 -- whether a sub-block before the last one is coded
-abbrev pub is_coded : ℕ → List ℤ → Bool
-is_coded number levels = not (not (number == 0)) || cbf levels
+abbrev pub coded_at : ℕ → List ℤ → Bool
+coded_at number levels = not (not (number == 0)) || cbf levels
 
--- what is written of a sub-block before the last one
+-- what is written of a sub-block before the last one: its flag, and its levels
+abbrev pub flag_part : residual.Shape → Sub → Bool → List Item
+flag_part s sub coded = if not (sub.number == 0) then context_bin coded (flag_context s sub) ∷ [] else []
+
+abbrev pub level_part : residual.Shape → Sub → Bool → Bool → List ℤ → List Item
+level_part s sub coded ended levels =
+    if coded then sig_items s sub (not (sub.number == 0)) false levels ++ value_items s.component (set_of s sub.number ended) (nonzero levels) else []
+
 abbrev pub sub_part : residual.Shape → Sub → Bool → List ℤ → List Item
-sub_part s sub ended levels =
-    let inner : Bool = not (sub.number == 0) in
-    (if inner then context_bin (is_coded sub.number levels) (flag_context s sub) ∷ [] else [])
-    ++ (if is_coded sub.number levels then sig_items s sub inner false levels ++ value_items s.component (set_of s sub.number ended) (nonzero levels) else [])
+sub_part s sub ended levels = flag_part s sub (coded_at sub.number levels) ++ level_part s sub (coded_at sub.number levels) ended levels
 
 -- the least size whose rest is coded, by how many levels with greater1 flags are left and whether an earlier size was above 1
 abbrev pub least_of : ℕ → Bool → ℕ

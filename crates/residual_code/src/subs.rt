@@ -1,8 +1,8 @@
 //! Sub-blocks, the last of the scan first.
-ghost use Rattle.std.specs.Prelude.{◌≡◌, ◌<◌, ◌≤◌, ◌+◌, ◌*◌, ◌-◌, ◌^◌, ◌++◌, ◌∷◌, List, Bool, length, map, nat_abs, is_some, OnOk};
+ghost use Rattle.std.specs.Prelude.{◌≡◌, ℕ, if◌then◌else◌, ◌<◌, ◌≤◌, ◌+◌, ◌*◌, ◌-◌, ◌^◌, ◌++◌, ◌∷◌, List, Bool, length, map, nat_abs, is_some, OnOk};
 ghost use Rattle.h265_model.specs.Residual.{sub_at, sig_items, value_items, set_of, nonzero, ended_at_zero, sub_items, AreLevels, has_flag, greater1_flags};
 ghost use Rattle.bin_items.specs.Growth.{IsOpen, Writes};
-ghost use Rattle.residual_code.specs.Parts.{IsShape, IsSubBlock, shape_of, sub_of, sub_count, tile_levels, sub_levels, has_members, down, is_coded, sub_part, set_number};
+ghost use Rattle.residual_code.specs.Parts.{IsShape, IsSubBlock, shape_of, sub_of, sub_count, tile_levels, sub_levels, has_members, down, coded_at, flag_part, level_part, sub_part, set_number};
 ghost use Rattle.residual_code.specs.Marks.{AreMarks, mark_place};
 
 use crate::flags::write_flags;
@@ -114,26 +114,72 @@ fn write_sub<S: BinSink>(
     requires number { number < sub_count shape }
     requires not_ended { IsOpen (S.phase sink.old) }
     ensures taken { (flags : List Bool) → AreMarks (shape_of shape) (number + 1) flags marks.old → Writes (sub_part (shape_of shape) (sub_at (shape_of shape) number flags) ended.old (sub_levels (shape_of shape) levels.now number)) (S.stands_for sink.old) (S.stands_for sink.new) result }
-    ensures marks { (flags : List Bool) → AreMarks (shape_of shape) (number + 1) flags marks.old → OnOk result (AreMarks (shape_of shape) number (is_coded number (sub_levels (shape_of shape) levels.now number) ∷ flags) marks.new) }
+    ensures marks { (flags : List Bool) → AreMarks (shape_of shape) (number + 1) flags marks.old → OnOk result (AreMarks (shape_of shape) number (coded_at number (sub_levels (shape_of shape) levels.now number) ∷ flags) marks.new) }
     ensures ended { OnOk result (ended.new ≡ ended_at_zero ended.old (nonzero (sub_levels (shape_of shape) levels.now number))) }
     ensures not_ended { IsOpen (S.phase sink.new) }
 {
     let sub = sub_block(shape, number, marks);
     let tile = load(levels, shape, sub.x, sub.y);
-    let inner = number != 0;
-    let coded = !inner || !is_empty(&tile);
-    if inner {
-        sink.bin(Bin {
-            value: coded,
-            place: Place::Context(sub_block_context(shape.component, sub.right, sub.below)),
-        })?;
-    }
+    let coded = is_coded(number, &tile);
+    write_coded(sink, shape, sub, coded)?;
     marks[mark_of(sub.x, sub.y)] = coded;
+    write_inner(sink, shape, sub, &tile, coded, ended)
+}
+
+// Whether a sub-block before the last one is coded: the first one is.
+#[inline(always)]
+fn is_coded(number: u32, tile: &[i16; 16]) -> bool
+    ensures { (kind : ℕ) → result ≡ coded_at number (tile_levels kind tile.now 16) }
+{
+    number == 0 || !is_empty(tile)
+}
+
+// Writes coded_sub_block_flag of a sub-block before the last one, if it isn't the first one.
+#[inline(always)]
+fn write_coded<S: BinSink>(
+    sink: &mut S,
+    shape: Shape,
+    sub: SubBlock,
+    coded: bool,
+) -> Result<(), NoMemory>
+    requires shape { IsShape shape }
+    requires not_ended { IsOpen (S.phase sink.old) }
+    ensures taken { Writes (flag_part (shape_of shape) (sub_of sub) coded) (S.stands_for sink.old) (S.stands_for sink.new) result }
+    ensures not_ended { IsOpen (S.phase sink.new) }
+{
+    if sub.number == 0 {
+        return Ok(());
+    }
+    sink.bin(Bin {
+        value: coded,
+        place: Place::Context(sub_block_context(shape.component, sub.right, sub.below)),
+    })
+}
+
+// Writes the levels of a sub-block before the last one, if it is coded.
+#[inline(always)]
+fn write_inner<S: BinSink>(
+    sink: &mut S,
+    shape: Shape,
+    sub: SubBlock,
+    tile: &[i16; 16],
+    coded: bool,
+    ended: &mut bool,
+) -> Result<(), NoMemory>
+    requires shape { IsShape shape }
+    requires sub { IsSubBlock shape sub }
+    requires bounds { AreLevels tile.now }
+    requires not_ended { IsOpen (S.phase sink.old) }
+    ensures taken { Writes (level_part (shape_of shape) (sub_of sub) coded ended.old (tile_levels shape.scan tile.now 16)) (S.stands_for sink.old) (S.stands_for sink.new) result }
+    ensures ended { OnOk result (ended.new ≡ (if coded then ended_at_zero ended.old (nonzero (tile_levels shape.scan tile.now 16)) else ended.old)) }
+    ensures not_ended { IsOpen (S.phase sink.new) }
+{
     if !coded {
         return Ok(());
     }
     let mut values = ArrayVec::new();
-    write_levels(sink, shape, sub, &tile, 16, inner, &mut values, ended)
+    let inner = sub.number != 0;
+    write_levels(sink, shape, sub, tile, 16, inner, &mut values, ended)
 }
 
 /// Writes the sub-blocks before this number, the last of them first.
