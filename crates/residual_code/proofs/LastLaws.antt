@@ -6,7 +6,7 @@ use Rattle.h265_model.specs.declared.Item.{Item}
 use Rattle.h265_model.specs.Plain.{context_bin}
 use Rattle.h265_model.specs.Bits.{u}
 use Rattle.h265_model.specs.Binarise.{tr, fl, context_bins, bypass_bins}
-use Rattle.h265_model.specs.Residual.{prefix_of, suffix_bits, suffix_base, swapped, is_zero, without_leading_zeros, last_items, last_context}
+use Rattle.h265_model.specs.Residual.{prefix_of, suffix_bits, suffix_base, swapped, is_zero, nonzero, without_leading_zeros, last_items, last_context}
 use Rattle.h265_model.specs.Residual as residual
 use Rattle.residual_code.specs.Parts.{down}
 use Rattle.residual_code.proofs.Zeros.{any_level}
@@ -121,3 +121,20 @@ level_not level v flag e f h = go (is_zero v) (ap (λ w. not (is_zero w)) (sym e
     go : (b : Bool) → not b ≡ true → b ≡ false
     go true k = absurd (cc)
     go false k = refl
+
+-- the first level after the zeros isn't 0
+pub one_level : (v : ℤ) (rest levels : List ℤ) → any_level levels ≡ true → without_leading_zeros levels ≡ v ∷ rest → nonzero (v ∷ []) ≡ v ∷ []
+one_level v rest [] some e = absurd (cc)
+one_level v rest (w ∷ levels) some e = go (is_zero w) refl some e (one_level v rest levels)
+  where
+    head : List ℤ → ℤ
+    head [] = pos 0
+    head (u ∷ us) = u
+
+    kept : (u : ℤ) → is_zero u ≡ false → nonzero (u ∷ []) ≡ u ∷ []
+    kept u h = rw h refl
+
+    go : (b : Bool) → is_zero w ≡ b → (not b || any_level levels) ≡ true → cond b (without_leading_zeros levels) (w ∷ levels) ≡ v ∷ rest
+        → (any_level levels ≡ true → without_leading_zeros levels ≡ v ∷ rest → nonzero (v ∷ []) ≡ v ∷ []) → nonzero (v ∷ []) ≡ v ∷ []
+    go true z s k later = later s k
+    go false z s k later = let same : w ≡ v = ap head k in kept v (ap is_zero (sym same) ∙ z)

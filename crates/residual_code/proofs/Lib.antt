@@ -14,3 +14,4 @@ pub mod LevelLaws
 pub mod LoadLaws
 pub mod SubSteps
 pub mod StepLaws
+pub mod FromLaws

@@ -1,6 +1,7 @@
 -- The flags of coded sub-blocks, by their places and in a list.
 use Rattle.std.proofs.Common.{◌≡◌, ◌≢◌, refl, sym, ◌∙◌, ap, subst, ℕ, zero, suc, ◌+◌, ◌-◌, ◌*◌, ◌^◌, ◌<◌, ◌≤◌, Bool, true, false, ◌⊎◌, inl, inr, List, [], ◌∷◌, length, get_or, set, replicate, get_or-set_other, get_or-set_same, arith}
 use Rattle.std.proofs.Math.Nat.{eq-or-lt_of_le}
+use Rattle.std.proofs.lemmas.Bool.Decides.{nat_tests}
 use Rattle.h265_model.specs.Residual as residual
 use Rattle.h265_model.specs.Residual.{number_of, place_at, scan, sub_scan, sub_at, Sub, sub_block_context}
 use Rattle.h265_model.specs.Plain.{context_bin}
@@ -109,3 +110,7 @@ marks_more s number x y flags marks flag is few at ex ey long are = record {
 pub flag_written : (s : Shape) (b : SubBlock) (coded : Bool) (context : ℕ) → (b.number == 0) ≡ false → context ≡ sub_block_context s.component b.right b.below
     → context_bin coded context ∷ [] ≡ flag_part (shape_of s) (sub_of b) coded
 flag_written s b coded context e c = rw (c, e) refl
+
+pub not_zero : (n : ℕ) → n ≢ 0 → (n == 0) ≡ false
+not_zero zero h = absurd (h refl)
+not_zero (suc n) h = grind (arith, nat_tests)

@@ -65,3 +65,11 @@ ended_is number coded before after levels other e l h = go coded refl h ∙ ap (
     go false k f =
         let none : any_level levels ≡ false = not_coded _ _ (sym e ∙ k) in
         f ∙ (ap (λ b. cond b (ended_at_zero before (nonzero levels)) before) k ∙ ap (ended_at_zero before) (sym (none_nonzero levels none)))
+
+pub coded_from : (empty some : Bool) → empty ≡ not some → empty ≡ false → some ≡ true
+coded_from empty true e h = refl
+coded_from empty false e h = absurd (cc)
+
+pub empty_from : (empty some : Bool) → empty ≡ not some → empty ≡ true → some ≡ false
+empty_from empty true e h = absurd (cc)
+empty_from empty false e h = refl

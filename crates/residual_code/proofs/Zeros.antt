@@ -84,5 +84,6 @@ pub any_more : (levels : List ℤ) (at n more : ℕ) → more ≡ at + n → any
 any_more levels at n more e h k =
     rw (e, take-add at n levels) (any-append (take at levels) (take n (drop at levels)) ∙ rw (h, k) refl)
 
-pub any_done : (levels : List ℤ) (at : ℕ) → length levels ≤ at → any_level (take at levels) ≡ false → false ≡ any_level levels
-any_done levels at h e = sym (ap any_level (sym (take_all at levels h)) ∙ e)
+pub any_rest : (levels : List ℤ) (at : ℕ) → any_level (take at levels) ≡ false → any_level (drop at levels) ≡ any_level levels
+any_rest levels at h =
+    sym (ap any_level (sym (take-append-drop at levels)) ∙ (any-append (take at levels) (drop at levels) ∙ ap (λ b. b || any_level (drop at levels)) h))

@@ -34,7 +34,7 @@ pub fn cbf(block: &Block) -> bool
             return true;
         }
     }
-    false
+    any_level(&levels[levels.len() / 64 * 64..])
 }
 
 // The last sub-block with a level other than 0, and its levels in rows.
