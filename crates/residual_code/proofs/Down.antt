@@ -1,5 +1,5 @@
 -- Values at numbers below a bound, the greatest first.
-use Rattle.std.proofs.Common.{◌≡◌, refl, sym, ◌∙◌, ap, ℕ, zero, suc, ◌+◌, ◌-◌, ◌<◌, ◌≤◌, List, [], ◌∷◌, length, arith}
+use Rattle.std.proofs.Common.{◌≡◌, refl, ◌∙◌, ap, ℕ, zero, suc, ◌-◌, ◌<◌, [], ◌∷◌, length, arith}
 use Rattle.residual_code.specs.Parts.{down}
 
 pub length-down : {A : Type 0} (f : ℕ → A) (n : ℕ) → length (down f n) ≡ n

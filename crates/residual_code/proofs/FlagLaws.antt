@@ -1,15 +1,14 @@
 -- Flags of the levels of a sub-block, one after another.
-use Rattle.std.proofs.Common.{◌≡◌, refl, sym, ◌∙◌, ap, ℕ, zero, suc, ◌+◌, ◌-◌, ◌*◌, ◌^◌, ◌<◌, ◌≤◌, Bool, true, false, cond, not, ◌||◌, List, [], ◌∷◌, ◌++◌, length, append_assoc, arith}
+use Rattle.std.proofs.Common.{◌≡◌, refl, sym, ◌∙◌, ap, ℕ, zero, suc, ◌+◌, ◌-◌, ◌^◌, ◌<◌, ◌≤◌, Bool, false, cond, not, ◌||◌, List, [], ◌∷◌, ◌++◌, length, append_assoc, arith}
 use Rattle.std.specs.Prelude.{ℤ, pos, negsuc, ◌==◌}
 use Rattle.std.proofs.lemmas.List.{append-nil, length_push}
 use Rattle.std.proofs.lemmas.Bool.Decides.{nat_tests}
-use Rattle.h265_model.specs.declared.Item.{Item}
 use Rattle.h265_model.specs.Plain.{context_bin}
 use Rattle.h265_model.specs.Residual as residual
 use Rattle.h265_model.specs.Residual.{Sub, sig_items, sig_at, is_implied, is_zero, nonzero, place_at, scan}
 use Rattle.residual_code.specs.declared.shape.Shape.{Shape}
 use Rattle.residual_code.specs.declared.shape.SubBlock.{SubBlock}
-use Rattle.residual_code.specs.Parts.{shape_of, sub_of, IsShape, IsSubBlock, sub_count, tile_at, tile_levels, has_members, sig_part, down}
+use Rattle.residual_code.specs.Parts.{shape_of, sub_of, IsShape, IsSubBlock, tile_at, tile_levels, has_members, sig_part, down}
 use Rattle.residual_code.proofs.Down.{length-down, down_first, down_none}
 use Rattle.residual_code.proofs.Places.{IsPlaced, placed}
 

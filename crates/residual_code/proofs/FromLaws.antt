@@ -1,14 +1,14 @@
 -- The last sub-block with a level, and those before it.
-use Rattle.std.proofs.Common.{◌≡◌, refl, sym, ◌∙◌, ap, ℕ, zero, suc, ◌+◌, ◌-◌, ◌*◌, ◌^◌, ◌<◌, ◌≤◌, Bool, true, false, List, [], ◌∷◌, ◌++◌, length, set, replicate, arith}
-use Rattle.std.specs.Prelude.{ℤ, pos}
+use Rattle.std.proofs.Common.{◌≡◌, refl, sym, ℕ, zero, suc, ◌+◌, ◌-◌, ◌*◌, ◌^◌, ◌<◌, ◌≤◌, Bool, true, false, List, [], ◌∷◌, ◌++◌, set, replicate, arith}
+use Rattle.std.specs.Prelude.{ℤ}
 use Rattle.h265_model.specs.Residual as residual
 use Rattle.h265_model.specs.Residual.{Sub, scan, place_at, sub_at, from_last, last_items, place_of, sig_items, value_items, set_of, nonzero, ended_at_zero, sub_items, without_leading_zeros}
 use Rattle.residual_code.specs.declared.shape.Shape.{Shape}
 use Rattle.residual_code.specs.declared.shape.SubBlock.{SubBlock}
-use Rattle.residual_code.specs.Parts.{IsShape, IsSubBlock, shape_of, sub_of, sub_count, tile_at, tile_levels, has_members, down}
+use Rattle.residual_code.specs.Parts.{IsShape, IsSubBlock, shape_of, tile_at, tile_levels, has_members, down}
 use Rattle.residual_code.specs.Marks.{AreMarks, mark_place}
 use Rattle.residual_code.proofs.SubLaws.{from_is}
-use Rattle.residual_code.proofs.MarkLaws.{IsSub, is_sub, marks_none, marks_more}
+use Rattle.residual_code.proofs.MarkLaws.{is_sub, marks_none, marks_more}
 
 pub from_written : (s : residual.Shape) (F : ℕ → List ℤ) (sub : Sub) (place : ℕ × ℕ) (number k : ℕ) (v : ℤ) (tile whole first : List ℤ) (ended : Bool)
     → whole ≡ v ∷ tile_levels s.scan tile k → first ≡ v ∷ [] → sub ≡ sub_at s number [] → place ≡ place_of s number k

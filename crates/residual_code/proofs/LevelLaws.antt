@@ -1,5 +1,6 @@
 -- Levels within the bounds.
-use Rattle.std.proofs.Common.{◌≡◌, refl, sym, ◌∙◌, ap, ℕ, zero, suc, ◌+◌, ◌*◌, ◌^◌, ◌<◌, ◌≤◌, Bool, true, false, map, List, [], ◌∷◌, ◌++◌, length, get_or, arith}
+use Rattle.std.proofs.Common.{◌≡◌, refl, sym, ◌∙◌, ap, ℕ, zero, suc, ◌+◌, ◌<◌, ◌≤◌, Bool, true, false, map, List, [], ◌∷◌, ◌++◌, length, get_or, take, subst, arith}
+use Rattle.std.proofs.lemmas.List.{take_more}
 use Rattle.std.specs.Prelude.{ℤ, pos, negsuc, nat_abs, ◌==◌}
 use Rattle.h265_model.specs.Residual as residual
 use Rattle.h265_model.specs.Residual.{AreLevels, nonzero, level_at, place_at, scan, counted_all, has_flag, ended_at_zero, greater1_flags, value_items}
@@ -70,3 +71,6 @@ on_ok (Err refused) h = tt
 
 pub value_items_as : (component set other : ℕ) (values more : List ℤ) → set ≡ other → values ≡ more → value_items component set values ≡ value_items component other more
 value_items_as component set other values more e f = rw (e, f) refl
+
+pub high_more : (levels : List ℤ) (i : ℕ) → i < length levels → nat_abs (get_or levels i (pos 0)) ≤ 255 → AreLevels (take i levels) → AreLevels (take (i + 1) levels)
+high_more levels i h low are = subst AreLevels (sym (take_more levels i (pos 0) h)) (append_high (take i levels) (get_or levels i (pos 0) ∷ []) are (low, tt))

@@ -1,5 +1,5 @@
 -- The flags of coded sub-blocks, by their places and in a list.
-use Rattle.std.proofs.Common.{◌≡◌, ◌≢◌, refl, sym, ◌∙◌, ap, subst, ℕ, zero, suc, ◌+◌, ◌-◌, ◌*◌, ◌^◌, ◌<◌, ◌≤◌, Bool, true, false, ◌⊎◌, inl, inr, List, [], ◌∷◌, length, get_or, set, replicate, get_or-set_other, get_or-set_same, arith}
+use Rattle.std.proofs.Common.{◌≡◌, ◌≢◌, refl, sym, ◌∙◌, ap, ℕ, zero, suc, ◌+◌, ◌-◌, ◌^◌, ◌<◌, ◌≤◌, Bool, false, inl, inr, List, [], ◌∷◌, length, get_or, set, replicate, get_or-set_other, get_or-set_same, arith}
 use Rattle.std.proofs.Math.Nat.{eq-or-lt_of_le}
 use Rattle.std.proofs.lemmas.Bool.Decides.{nat_tests}
 use Rattle.h265_model.specs.Residual as residual
@@ -8,7 +8,7 @@ use Rattle.h265_model.specs.Plain.{context_bin}
 use Rattle.std.specs.Prelude.{◌==◌}
 use Rattle.residual_code.specs.declared.shape.Shape.{Shape}
 use Rattle.residual_code.specs.declared.shape.SubBlock.{SubBlock}
-use Rattle.residual_code.specs.Parts.{IsShape, IsSubBlock, shape_of, sub_of, sub_count, flag_part}
+use Rattle.residual_code.specs.Parts.{IsShape, shape_of, sub_of, sub_count, flag_part}
 use Rattle.residual_code.specs.Marks.{AreMarks, mark_place}
 use Rattle.residual_code.proofs.Places.{IsPlaced, placed, number_found, scan_long}
 

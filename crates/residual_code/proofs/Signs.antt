@@ -1,5 +1,5 @@
 -- Signs as the digits of a number.
-use Rattle.std.proofs.Common.{◌≡◌, refl, sym, ◌∙◌, ap, ℕ, zero, suc, ◌+◌, ◌*◌, ◌^◌, ◌<◌, ◌≤◌, pow-suc, Bool, true, false, List, [], ◌∷◌, ◌++◌, length, map, take, get_or, arith}
+use Rattle.std.proofs.Common.{◌≡◌, refl, sym, ◌∙◌, ap, ℕ, suc, ◌+◌, ◌*◌, ◌^◌, ◌<◌, ◌≤◌, pow-suc, Bool, true, false, List, [], ◌∷◌, ◌++◌, length, map, take, get_or, arith}
 use Rattle.std.specs.Prelude.{ℤ, pos, negsuc}
 use Rattle.std.specs.Int.Signed.{lt_z}
 use Rattle.h265_model.specs.Plain.{bypass_bin}

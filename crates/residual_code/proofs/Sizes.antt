@@ -1,14 +1,13 @@
 -- The sizes of a sub-block's levels other than 0, one after another.
-use Rattle.std.proofs.Common.{◌≡◌, refl, sym, ◌∙◌, ap, subst, ℕ, zero, suc, ◌+◌, ◌-◌, ◌*◌, ◌^◌, ◌<◌, ◌≤◌, min, Bool, true, false, cond, ◌||◌, not, List, [], ◌∷◌, ◌++◌, length, map, drop, get_or, replicate, arith}
-use Rattle.std.specs.Prelude.{ℤ, pos, negsuc, nat_abs, nat_lt, nat_le, ◌==◌}
-use Rattle.std.specs.List.{list_any}
+use Rattle.std.proofs.Common.{◌≡◌, refl, sym, ◌∙◌, ap, ℕ, zero, suc, ◌+◌, ◌-◌, ◌<◌, ◌≤◌, min, Bool, true, false, cond, ◌||◌, List, [], ◌∷◌, ◌++◌, length, map, drop, get_or, replicate, arith}
+use Rattle.std.specs.Prelude.{ℤ, pos, negsuc, nat_abs, nat_lt, nat_le}
 use Rattle.std.proofs.lemmas.List.{drop_more, drop-map}
 use Rattle.std.proofs.lemmas.Bool.Decides.{nat_tests}
-use Rattle.std.proofs.lemmas.Bool.{leb-true, ltb-true, ltb-false, eqb-true}
+use Rattle.std.proofs.lemmas.Bool.{ltb-true, ltb-false}
 use Rattle.h265_model.specs.declared.Item.{Item}
 use Rattle.h265_model.specs.Plain.{context_bin}
 use Rattle.h265_model.specs.Binarise.{bypass_bins, remaining}
-use Rattle.h265_model.specs.Residual.{greater1_flags, greater2_of, greater1_items, greater1_context, greater2_items, greater2_context, has_flag, counted, counted_all, Known, known, known_later, known_of, rice_after, rest_items, nonzero, is_zero, AreLevels}
+use Rattle.h265_model.specs.Residual.{greater1_flags, greater2_of, greater1_items, greater1_context, greater2_items, greater2_context, has_flag, counted, Known, known, known_later, known_of, rice_after, rest_items, nonzero, AreLevels}
 use Rattle.residual_code.specs.Parts.{rests_from, least_of}
 
 abbrev pub sizes_of : List ℤ → List ℕ

@@ -1,12 +1,11 @@
 -- One sub-block before the last one.
-use Rattle.std.proofs.Common.{◌≡◌, refl, sym, ◌∙◌, ap, ℕ, zero, suc, ◌+◌, ◌-◌, ◌*◌, ◌^◌, ◌<◌, ◌≤◌, Bool, true, false, cond, not, ◌||◌, List, [], ◌∷◌, ◌++◌, length, get_or, arith}
-use Rattle.std.specs.Prelude.{ℤ, pos, negsuc, ◌==◌}
+use Rattle.std.proofs.Common.{◌≡◌, refl, sym, ◌∙◌, ap, ℕ, zero, suc, ◌-◌, ◌^◌, ◌<◌, ◌≤◌, Bool, true, false, cond, not, ◌||◌, List, [], ◌∷◌, ◌++◌, arith}
+use Rattle.std.specs.Prelude.{ℤ, pos, negsuc}
 use Rattle.h265_model.specs.Residual as residual
-use Rattle.h265_model.specs.declared.Item.{Item}
 use Rattle.h265_model.specs.Residual.{Sub, sub_at, sub_scan, place_at, nonzero, ended_at_zero, cbf, is_zero}
 use Rattle.residual_code.specs.declared.shape.Shape.{Shape}
 use Rattle.residual_code.specs.declared.shape.SubBlock.{SubBlock}
-use Rattle.residual_code.specs.Parts.{IsShape, IsSubBlock, shape_of, sub_of, sub_count, sub_tile, sub_levels, tile_levels, flag_part, level_part, sub_part, coded_at}
+use Rattle.residual_code.specs.Parts.{IsShape, IsSubBlock, shape_of, sub_count, sub_tile, sub_levels, tile_levels, flag_part, level_part, sub_part, coded_at}
 use Rattle.residual_code.proofs.Zeros.{any_level}
 use Rattle.residual_code.proofs.Places.{IsPlaced, placed}
 

@@ -1,5 +1,5 @@
 -- What was written of the sub-blocks before the last one.
-use Rattle.std.proofs.Common.{◌≡◌, refl, sym, ◌∙◌, ap, subst, ℕ, ◌+◌, ◌-◌, ◌<◌, ◌≤◌, Bool, List, [], ◌∷◌, ◌++◌, arith}
+use Rattle.std.proofs.Common.{◌≡◌, refl, subst, ℕ, ◌+◌, ◌-◌, ◌<◌, ◌≤◌, Bool, List, ◌∷◌, arith}
 use Rattle.std.specs.Prelude.{ℤ}
 use Rattle.h265_model.specs.Residual as residual
 use Rattle.h265_model.specs.Residual.{sub_items, sub_at, ended_at_zero, nonzero}

@@ -1,11 +1,11 @@
 -- The 16 levels of a sub-block.
-use Rattle.std.proofs.Common.{◌≡◌, refl, sym, ◌∙◌, ap, ℕ, zero, suc, ◌+◌, ◌-◌, ◌*◌, ◌/◌, ◌%◌, ◌^◌, ◌<◌, ◌≤◌, Bool, true, false, not, ◌||◌, ◌⊎◌, inl, inr, List, [], ◌∷◌, ◌++◌, length, get_or, take, drop, arith}
+use Rattle.std.proofs.Common.{◌≡◌, refl, sym, ◌∙◌, ap, ℕ, zero, suc, ◌+◌, ◌*◌, ◌/◌, ◌%◌, ◌<◌, ◌≤◌, Bool, true, false, not, ◌||◌, inl, inr, List, ◌∷◌, length, get_or, arith}
 use Rattle.std.specs.Prelude.{ℤ, pos}
 use Rattle.std.proofs.Math.Nat.{eq-or-lt_of_le}
-use Rattle.h265_model.specs.Residual.{cbf, is_zero, scan, place_at, number_of}
+use Rattle.h265_model.specs.Residual.{is_zero, scan, place_at, number_of}
 use Rattle.residual_code.specs.Parts.{tile_at, tile_levels, down}
-use Rattle.residual_code.proofs.Zeros.{any_level, flag_of, none_at, none_of, zero_is, is_zero_at}
-use Rattle.residual_code.proofs.Places.{number_found, covered, scan_long, IsPlaced, placed}
+use Rattle.residual_code.proofs.Zeros.{any_level, none_at, none_of, zero_is, is_zero_at}
+use Rattle.residual_code.proofs.Places.{number_found, covered, scan_long}
 
 -- none of the values below a bound is a level
 pub down_none : (f : ℕ → ℤ) (n : ℕ) → ((i : ℕ) → i < n → f i ≡ pos 0) → any_level (down f n) ≡ false

@@ -1,5 +1,5 @@
 -- A block's levels by sub-blocks, each as 16 levels in rows, and what is written of each.
-use Rattle.std.specs.Prelude.{◌≡◌, ◌≤◌, ◌<◌, ℕ, zero, suc, ◌+◌, ◌*◌, ◌-◌, ◌^◌, Bool, true, false, not, ◌||◌, ◌&&◌, List, [], ◌∷◌, ◌++◌, length, get_or, ◌==◌, nat_le, nat_lt, if◌then◌else◌, ℤ, pos}
+use Rattle.std.specs.Prelude.{◌≡◌, ◌≤◌, ◌<◌, ℕ, zero, suc, ◌+◌, ◌*◌, ◌-◌, ◌^◌, Bool, true, false, not, ◌||◌, ◌&&◌, List, [], ◌∷◌, ◌++◌, get_or, ◌==◌, nat_le, nat_lt, if◌then◌else◌, ℤ, pos}
 use Rattle.h265_model.specs.declared.Item.{Item}
 use Rattle.h265_model.specs.Plain.{context_bin, place_values}
 use Rattle.h265_model.specs.Binarise.{bypass_bins, remaining}

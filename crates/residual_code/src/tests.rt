@@ -193,6 +193,14 @@ fn level_of(number: u32, density: u32) -> i16 {
     if number >> 31 == 1 { -level } else { level }
 }
 
+// Gives a place of a block a level; the numbers of its column and row count past the side.
+fn set_at(block: &mut Block, column: u32, row: u32, level: i16)
+    ensures { block.new.log2 ≡ block.old.log2 }
+{
+    let side = 1u32 << block.log2();
+    block.set(column % side, row % side, level);
+}
+
 // A made-up block of levels; without any, one place has one.
 fn made_up(seed: u64, log2: u32, density: u32) -> Block
     requires from { 3 ≤ log2 }
@@ -201,21 +209,14 @@ fn made_up(seed: u64, log2: u32, density: u32) -> Block
 {
     let mut numbers = Numbers::new(seed);
     let mut block = Block::zero(log2);
-    let side = 1u32 << log2;
-    for place in 0..side * side {
-        block.set(
-            place % side,
-            place / side,
-            level_of(numbers.next(), density),
-        );
+    for place in 0..1u32 << (2 * log2) {
+        let level = level_of(numbers.next(), density);
+        set_at(&mut block, place, place >> log2, level);
     }
     if !cbf(&block) {
         let number = numbers.next();
-        block.set(
-            (number >> 8) % side,
-            number % side,
-            1 + ((number >> 16) % 255) as i16,
-        );
+        let level = 1 + ((number >> 16) % 255) as i16;
+        set_at(&mut block, number >> 8, number, level);
     }
     block
 }

@@ -1,4 +1,4 @@
-use Rattle.std.proofs.Common.{◌≡◌, ◌∙◌, ◌-◌, ap, sym, ℕ, ◌<◌, get_or, not, w16, rules, arith}
+use Rattle.std.proofs.Common.{◌∙◌, ◌-◌, ap, get_or, not, w16, rules, arith}
 use Rattle.std.proofs.lemmas.Int.{to_z-of_z}
 use Rattle.h265_model.specs.Residual.{cbf, is_zero, scan, place_at}
 use Rattle.residual_code.specs.Parts.{tile_at, tile_levels}

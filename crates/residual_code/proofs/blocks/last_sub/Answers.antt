@@ -1,6 +1,6 @@
-use Rattle.std.proofs.Common.{◌≡◌, ◌∙◌, ◌-◌, ◌<◌, ◌≤◌, ◌^◌, ap, sym, ℕ, List, get_or, not, true, false, length, arith}
+use Rattle.std.proofs.Common.{◌≡◌, ◌∙◌, ◌-◌, ap, sym, ℕ, List, get_or, true, false, arith}
 use Rattle.h265_model.specs.Residual.{cbf, from_subs, from_last, without_leading_zeros}
-use Rattle.residual_code.specs.Parts.{shape_of, sub_count, sub_levels, tile_levels, down}
+use Rattle.residual_code.specs.Parts.{shape_of, sub_levels, down}
 use Rattle.residual_code.proofs.StepLaws.{scan_low, sub_count_low, levels_are, coded_from, empty_from}
 use Rattle.residual_code.proofs.SubLaws.{items_start, empty_start, empty_more, from_empty, from_coded, none_left}
 use Rattle.residual_code.proofs.blocks.last_sub.Goals as goal

@@ -1,15 +1,13 @@
-use Rattle.std.proofs.Common.{◌≡◌, ◌∙◌, ◌<◌, ◌≤◌, ◌^◌, ◌*◌, ◌+◌, ◌++◌, ◌∷◌, [], ap, sym, refl, ℕ, List, get_or, true, false, SFits, w16, rules, arith}
-use Rattle.std.specs.Prelude.{ℤ}
+use Rattle.std.proofs.Common.{◌≡◌, ◌∙◌, ◌<◌, ◌*◌, ◌+◌, ◌++◌, ◌∷◌, [], ap, refl, ℕ, List, get_or, true, false, w16, rules, arith}
 use Rattle.std.proofs.lemmas.Int.{to_z-of_z}
 use Rattle.bin_items.proofs.Growing.{writes_at_err, front_first, front_then, front_as, writes_then, writes_as}
-use Rattle.h265_model.specs.Residual.{cbf, scan, place_at, nonzero, ended_at_zero, without_leading_zeros, AreLevels}
+use Rattle.h265_model.specs.Residual.{cbf, scan, place_at, nonzero, ended_at_zero, without_leading_zeros}
 use Rattle.residual_code.specs.Parts.{shape_of, sub_of, sub_levels, tile_at, tile_levels}
-use Rattle.residual_code.specs.Marks.{mark_place}
 use Rattle.residual_code.proofs.FlagLaws.{place_low, sub_low}
-use Rattle.residual_code.proofs.MarkLaws.{IsSub, is_sub}
+use Rattle.residual_code.proofs.MarkLaws.{is_sub}
 use Rattle.residual_code.proofs.Sizes.{size_high}
 use Rattle.residual_code.proofs.LastLaws.{one_level}
-use Rattle.residual_code.proofs.FromLaws.{from_written, inside, side_low, place_is, first_mark}
+use Rattle.residual_code.proofs.FromLaws.{from_written, inside, place_is, first_mark}
 use Rattle.residual_code.proofs.blocks.write_from.Goals as goal
 
 pub overflow_mul-sub : goal.overflow_mul-sub

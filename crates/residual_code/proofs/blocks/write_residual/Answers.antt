@@ -1,4 +1,3 @@
-use Rattle.std.proofs.Common.{◌≡◌, ◌∙◌, ap}
 use Rattle.h265_model.specs.Residual.{shape}
 use Rattle.residual_code.proofs.LevelLaws.{tile_high}
 use Rattle.residual_code.proofs.blocks.write_residual.Goals as goal

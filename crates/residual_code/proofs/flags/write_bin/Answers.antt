@@ -1,4 +1,3 @@
-use Rattle.std.proofs.Common.{arith}
 use Rattle.residual_code.proofs.Bounds.{sig_low}
 use Rattle.residual_code.proofs.FlagLaws.{sub_low}
 use Rattle.residual_code.proofs.flags.write_bin.Goals as goal

@@ -1,4 +1,4 @@
-use Rattle.std.proofs.Common.{◌≡◌, ◌∙◌, ap, sym, ◌++◌, ◌∷◌, [], ◌<◌, get_or, not, w16, rules, arith}
+use Rattle.std.proofs.Common.{◌∙◌, ap, ◌++◌, ◌∷◌, [], get_or, not, w16, rules}
 use Rattle.std.proofs.lemmas.Int.{to_z-of_z}
 use Rattle.bin_items.proofs.Growing.{writes_at_err, front_as, grew_as}
 use Rattle.h265_model.specs.Residual.{nonzero, is_zero}

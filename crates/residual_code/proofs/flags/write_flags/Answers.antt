@@ -1,4 +1,4 @@
-use Rattle.std.proofs.Common.{◌≡◌, ◌≤◌, refl, arith}
+use Rattle.std.proofs.Common.{refl, arith}
 use Rattle.bin_items.proofs.Growing.{took_more, took_as, took_all, stopped, writes_at_err}
 use Rattle.residual_code.specs.Parts.{shape_of, sub_of}
 use Rattle.residual_code.proofs.FlagLaws.{flag_more, values_more, room_more, no_flags, values_done}

@@ -1,7 +1,6 @@
-use Rattle.std.proofs.Common.{◌≡◌, sym}
 use Rattle.bin_items.proofs.Growing.{writes_at_err, front_first, front_then, writes_then, writes_as, front_as}
 use Rattle.residual_code.specs.Parts.{shape_of}
-use Rattle.residual_code.proofs.LastLaws.{IsSplit, x_split, y_split, last_is}
+use Rattle.residual_code.proofs.LastLaws.{x_split, y_split, last_is}
 use Rattle.residual_code.proofs.last.write_last.Goals as goal
 
 pub write_prefix-requires-clause-prefix : goal.write_prefix-requires-clause-prefix

@@ -1,8 +1,8 @@
 use Rattle.std.proofs.Common.{◌≡◌, ◌*◌, ◌-◌, arith}
 use Rattle.h265_model.specs.Residual.{last_context}
-use Rattle.bin_items.proofs.Growing.{took_one_more, took_as, took_all, took_none, took_front, stopped, grew_as, front_as, writes_at_err, open_as, front_kept}
+use Rattle.bin_items.proofs.Growing.{took_one_more, took_as, took_all, open_as}
 use Rattle.residual_code.proofs.Bounds.{last_low}
-use Rattle.residual_code.proofs.LastLaws.{prefix_more, prefix_ended, prefix_whole}
+use Rattle.residual_code.proofs.LastLaws.{prefix_more, prefix_ended}
 use Rattle.residual_code.proofs.last.write_prefix.Goals as goal
 
 pub bin-requires-clause-in_range : goal.bin-requires-clause-in_range

@@ -1,4 +1,4 @@
-use Rattle.std.proofs.Common.{◌≡◌, ◌-◌, sym, arith}
+use Rattle.std.proofs.Common.{◌-◌, sym}
 use Rattle.h265_model.specs.Residual.{suffix_base}
 use Rattle.bin_items.proofs.Growing.{grew_as, grew_same}
 use Rattle.residual_code.proofs.LastLaws.{no_suffix}

@@ -1,5 +1,5 @@
-use Rattle.std.proofs.Common.{◌≡◌, ◌∙◌, ◌+◌, ◌<◌, ap, sym, refl, get_or, false, List, ℕ, arith}
-use Rattle.residual_code.proofs.MarkLaws.{IsSub, is_sub, sub_known}
+use Rattle.std.proofs.Common.{◌∙◌, ap, refl, get_or, false, List, ℕ, arith}
+use Rattle.residual_code.proofs.MarkLaws.{is_sub, sub_known}
 use Rattle.residual_code.proofs.subs.sub_block.Goals as goal
 
 pub overflow_add-x : goal.overflow_add-x

@@ -1,4 +1,3 @@
-use Rattle.std.proofs.Common.{◌≡◌, ◌∙◌, ap, sym, arith}
 use Rattle.bin_items.proofs.Growing.{writes_as, writes_took}
 use Rattle.residual_code.proofs.Bounds.{sub_block_low}
 use Rattle.residual_code.proofs.MarkLaws.{flag_written, not_zero}

@@ -1,6 +1,6 @@
-use Rattle.std.proofs.Common.{◌≡◌, ◌∙◌, ap, sym, ◌++◌, Result, Ok, Err, arith}
+use Rattle.std.proofs.Common.{◌∙◌, ap}
 use Rattle.bin_items.proofs.Growing.{writes_at_err, front_first, writes_then, writes_as}
-use Rattle.h265_model.specs.Residual.{nonzero, ended_at_zero, value_items, AreLevels}
+use Rattle.h265_model.specs.Residual.{ended_at_zero}
 use Rattle.residual_code.specs.Parts.{tile_levels}
 use Rattle.residual_code.proofs.LevelLaws.{levels_high, nonzero_high, append_high, values_nonzero, on_ok, value_items_as}
 use Rattle.residual_code.proofs.subs.write_levels.Goals as goal

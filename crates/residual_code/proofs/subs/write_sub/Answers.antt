@@ -1,11 +1,10 @@
-use Rattle.std.proofs.Common.{◌≡◌, ◌∙◌, ◌∷◌, ◌<◌, ap, sym, subst, Bool, List, set, length, arith, rules}
+use Rattle.std.proofs.Common.{◌≡◌, ◌∙◌, ap, length, arith, rules}
 use Rattle.std.proofs.lemmas.Result.{on_ok_weaker}
 use Rattle.bin_items.proofs.Growing.{writes_at_err, front_first, front_as, writes_then, writes_as}
-use Rattle.h265_model.specs.Residual.{sub_at, nonzero, ended_at_zero}
-use Rattle.residual_code.specs.Parts.{shape_of, sub_of, sub_levels, sub_tile, tile_levels, coded_at}
-use Rattle.residual_code.specs.Marks.{AreMarks, mark_place}
+use Rattle.h265_model.specs.Residual.{sub_at}
+use Rattle.residual_code.specs.Parts.{shape_of, sub_of, sub_levels, tile_levels, coded_at}
 use Rattle.residual_code.proofs.LevelLaws.{tile_high, on_ok}
-use Rattle.residual_code.proofs.MarkLaws.{IsSub, is_sub, marks_more}
+use Rattle.residual_code.proofs.MarkLaws.{is_sub, marks_more}
 use Rattle.residual_code.proofs.StepLaws.{x_at, y_at, scan_low, levels_are, part_as, ended_is}
 use Rattle.residual_code.proofs.subs.write_sub.Goals as goal
 

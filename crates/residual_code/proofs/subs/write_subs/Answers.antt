@@ -1,4 +1,4 @@
-use Rattle.std.proofs.Common.{◌≡◌, ◌≤◌, arith}
+use Rattle.std.proofs.Common.{arith}
 use Rattle.bin_items.proofs.Growing.{writes_at_err}
 use Rattle.residual_code.proofs.SubSteps.{done_more, done_stopped, done_all}
 use Rattle.residual_code.proofs.subs.write_subs.Goals as goal

@@ -1,4 +1,4 @@
-use Rattle.std.proofs.Common.{◌≡◌, ◌≤◌, List, Bool}
+use Rattle.std.proofs.Common.{◌≤◌, List, Bool}
 use Rattle.bin_items.specs.Growth.{IsOpen}
 use Rattle.residual_code.specs.Parts.{shape_of, sub_levels}
 use Rattle.residual_code.specs.Marks.{AreMarks}

@@ -1,5 +1,5 @@
 use Rattle.std.proofs.Common.{arith}
-use Rattle.residual_code.proofs.Codes.{short_digits, IsLong, is_long}
+use Rattle.residual_code.proofs.Codes.{short_digits, is_long}
 use Rattle.residual_code.proofs.values.remaining_code.Goals as goal
 
 pub returns-then-prefix-lt4-clause-digits : goal.returns-then-prefix-lt4-clause-digits

@@ -1,4 +1,3 @@
-use Rattle.std.proofs.Common.{◌≡◌, arith}
 use Rattle.bin_items.proofs.Growing.{writes_as, writes_took}
 use Rattle.residual_code.proofs.Sizes.{greater2_is}
 use Rattle.residual_code.proofs.Bounds.{greater2_low}

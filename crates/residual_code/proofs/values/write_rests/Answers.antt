@@ -1,4 +1,4 @@
-use Rattle.std.proofs.Common.{◌≡◌, ◌≤◌, ◌∙◌, ◌-◌, sym, ap, refl, get_or, SFits, w16, rules, arith}
+use Rattle.std.proofs.Common.{◌≡◌, ◌∙◌, ◌-◌, sym, ap, refl, get_or, SFits, w16, rules, arith}
 use Rattle.std.specs.Prelude.{pos, nat_abs}
 use Rattle.std.proofs.lemmas.Int.{to_z-of_z}
 use Rattle.bin_items.proofs.Growing.{took_more, took_as, took_all, stopped, grew_as, front_as, writes_at_err}

@@ -1,4 +1,4 @@
-use Rattle.std.proofs.Common.{◌≡◌, refl, arith}
+use Rattle.std.proofs.Common.{refl}
 use Rattle.bin_items.proofs.Growing.{writes_as}
 use Rattle.residual_code.proofs.Signs.{signs_written}
 use Rattle.residual_code.proofs.values.write_signs.Goals as goal
