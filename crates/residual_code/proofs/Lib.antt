@@ -1,0 +1,17 @@
+pub mod Zeros
+pub mod Down
+pub mod Places
+pub mod Codes
+pub mod Bounds
+pub mod Sizes
+pub mod Signs
+pub mod LastLaws
+pub mod FlagLaws
+pub mod Tiles
+pub mod MarkLaws
+pub mod SubLaws
+pub mod LevelLaws
+pub mod LoadLaws
+pub mod SubSteps
+pub mod StepLaws
+pub mod FromLaws
