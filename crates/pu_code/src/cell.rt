@@ -1,5 +1,5 @@
 //! What is kept of a coding unit for each of its blocks of 8x8.
-ghost use Rattle.std.specs.Prelude.{◌≡◌, ◌<◌, ◌≤◌, ◌*◌, ◌+◌, length, slice_index_or, Some, None};
+ghost use Rattle.std.specs.Prelude.{◌≡◌, ℕ, ◌<◌, ◌≤◌, ◌*◌, ◌+◌, length, slice_index_or, Some, None};
 ghost use Rattle.std.specs.Option.{option_or};
 ghost use Rattle.h265_model.specs.Tree.{IsMode};
 ghost use Rattle.pu_code.specs.Cells.{cell_of, IsFilled, is_smaller, is_copy, mode_kept};

@@ -1,5 +1,5 @@
 //! The coding units of a picture that are coded already.
-ghost use Rattle.std.specs.Prelude.{◌≡◌, ℕ, ◌+◌, ◌*◌, ◌-◌, ◌<◌, List, [], ◌∷◌, ◌++◌, IfOk, IsTrue};
+ghost use Rattle.std.specs.Prelude.{◌≡◌, ℕ, ◌+◌, ◌*◌, ◌-◌, ◌%◌, ◌<◌, ◌≤◌, ◌==◌, if◌then◌else◌, List, [], ◌∷◌, ◌++◌, IfOk, IsTrue};
 ghost use Rattle.h265_model.specs.declared.leaf.Leaf.{Leaf as TheLeaf};
 ghost use Rattle.h265_model.specs.Plain.{coded};
 ghost use Rattle.h265_model.specs.Tree as tree;
@@ -109,6 +109,19 @@ impl Grid {
         self.cell(x, y - 1)
     }
 
+    // The candidate that the unit above a place gives. It counts only in the same row of coding tree units.
+    #[inline(always)]
+    fn candidate_above(&self, x: u32, y: u32) -> u32
+        requires across { x < coded self.now.size.w }
+        requires down { y < coded self.now.size.h }
+        ensures { (leaves : List TheLeaf) → StandsFor self.now leaves → result ≡ (if y % 32 == 0 then 1 else tree.candidate (tree.above leaves x y)) }
+    {
+        if y % 32 == 0 {
+            return DC;
+        }
+        candidate(self.above(x, y))
+    }
+
     /// The candidate modes of a unit at a place of the coded picture (8.4.2). The unit above counts only in the same row of coding tree units.
     pub fn candidates(&self, x: u32, y: u32) -> ArrayVec<u32, 3>
         requires across { x < coded self.now.size.w }
@@ -117,12 +130,7 @@ impl Grid {
         ensures three { (leaves : List TheLeaf) → StandsFor self.now leaves → AreModes leaves → AreThree result.items }
     {
         let left = candidate(self.left_of(x, y));
-        let above = if y % 32 == 0 {
-            DC
-        } else {
-            candidate(self.above(x, y))
-        };
-        candidates_of(left, above)
+        candidates_of(left, self.candidate_above(x, y))
     }
 
     /// The context of cu_skip_flag of a unit at a place of the coded picture, by the units on the left and above that are copies (9.3.4.2.2).

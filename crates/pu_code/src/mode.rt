@@ -24,6 +24,7 @@ fn other_than(a: u32, b: u32) -> u32
 }
 
 /// The candidates that the modes on the left and above give (8.4.2, candModeList).
+#[tactic(auto, unfolding(h265_model::specs::Modes::candidates))]
 pub(crate) fn candidates_of(left: u32, above: u32) -> ArrayVec<u32, 3>
     requires { left < 256 }
     ensures { result.items ≡ modes.candidates left above }
