@@ -1,5 +1,5 @@
 -- The bins of a mode, by its place in the list of candidates.
-use Rattle.std.proofs.Common.{◌≡◌, refl, sym, ◌∙◌, ap, subst, ℕ, List, [], ◌∷◌, false, get_or}
+use Rattle.std.proofs.Common.{◌≡◌, refl, sym, ◌∙◌, ap, ℕ, List, [], ◌∷◌, false, get_or}
 use Rattle.std.proofs.lemmas.Bool.{cond-true, cond-false, eq-eqb, ne_eqb}
 use Rattle.h265_model.specs.Plain.{context_bin}
 use Rattle.h265_model.specs.Binarise.{fl, bypass_bins}

@@ -1,7 +1,6 @@
 -- Coding units as squares of blocks of 8x8.
-use Rattle.std.proofs.Common.{◌≡◌, refl, sym, ◌∙◌, ap, subst, ℕ, ◌+◌, ◌*◌, ◌-◌, ◌/◌, ◌%◌, ◌^◌, ◌<◌, ◌≤◌, Bool, true, false, cond, ◌&&◌, List, [], ◌∷◌, ◌++◌, get_or, arith, inl, inr, ◌⊎◌, ⊎_elim, Option, Some, None}
+use Rattle.std.proofs.Common.{◌≡◌, refl, sym, ◌∙◌, ap, subst, ℕ, ◌+◌, ◌*◌, ◌-◌, ◌/◌, ◌%◌, ◌^◌, ◌<◌, ◌≤◌, Bool, true, false, cond, List, [], ◌∷◌, ◌++◌, get_or, arith, inl, inr, ◌⊎◌, Option, Some, None}
 use Rattle.std.specs.Prelude.{nat_le, nat_lt}
-use Rattle.std.specs.List.{find}
 use Rattle.std.specs.Option.{option_or}
 use Rattle.std.proofs.lemmas.Bool.{cases_lt}
 use Rattle.std.proofs.lemmas.Bool.Decides.{nat_tests}
@@ -11,7 +10,7 @@ use Rattle.h265_model.specs.declared.leaf.Leaf.{Leaf}
 use Rattle.h265_model.specs.Plain.{coded}
 use Rattle.h265_model.specs.Tree.{covers, leaf_at}
 use Rattle.pu_code.specs.declared.cell.Cell.{Cell}
-use Rattle.pu_code.specs.Cells.{Cells, AreCells, StandsFor, IsUnit, IsFilled, is_within, blocks, cell_of, cell_at, kept_of}
+use Rattle.pu_code.specs.Cells.{Cells, StandsFor, IsUnit, IsFilled, is_within, blocks, cell_of, cell_at, kept_of}
 
 -- a side of 8, 16 or 32
 abbrev IsSide : ℕ → Type 0

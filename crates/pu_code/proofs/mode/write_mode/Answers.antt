@@ -1,4 +1,4 @@
-use Rattle.std.proofs.Common.{◌≡◌, sym, ◌∙◌, ap, get_or}
+use Rattle.std.proofs.Common.{sym, ◌∙◌, ap, get_or}
 use Rattle.bin_items.proofs.Growing.{writes_as}
 use Rattle.pu_code.proofs.ModeLaws.{first_is, second_is, third_is, other_is}
 use Rattle.pu_code.proofs.mode.write_mode.Goals as goal

@@ -1,4 +1,4 @@
-use Rattle.std.proofs.Common.{◌≡◌, ap, sym, ◌∙◌, subst}
+use Rattle.std.proofs.Common.{ap, sym, ◌∙◌, subst}
 use Rattle.h265_model.specs.Tree as tree
 use Rattle.pu_code.specs.Candidates.{AreThree}
 use Rattle.pu_code.specs.Cells.{mode_kept}

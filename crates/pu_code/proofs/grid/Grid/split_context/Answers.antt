@@ -1,4 +1,4 @@
-use Rattle.std.proofs.Common.{◌≡◌, ap, sym, ◌∙◌, ◌-◌}
+use Rattle.std.proofs.Common.{ap, ◌∙◌, ◌-◌}
 use Rattle.h265_model.specs.Tree as tree
 use Rattle.pu_code.specs.Cells.{is_smaller}
 use Rattle.pu_code.proofs.Neighbours.{smaller_is, byte_is, split_is}
