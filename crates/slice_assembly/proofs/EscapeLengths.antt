@@ -1,5 +1,5 @@
 -- How long bytes with emulation prevention are.
-use Rattle.std.proofs.Common.{ℕ, ◌+◌, ◌-◌, ◌*◌, ◌^◌, ◌<◌, ◌≤◌, Bool, true, false, cond, List, [], ◌∷◌, length, arith}
+use Rattle.std.proofs.Common.{ℕ, ◌-◌, ◌*◌, ◌^◌, ◌<◌, ◌≤◌, true, false, cond, List, [], ◌∷◌, length, arith}
 use Rattle.std.specs.Prelude.{◌&&◌, ◌==◌, nat_le, slice_index}
 use Rattle.h265_model.specs.NalUnits.{escape_after, escape}
 use Rattle.slice_assembly.specs.Substreams.{IsSubstream}

@@ -1,9 +1,9 @@
 -- A picture's piece from its parts.
-use Rattle.std.proofs.Common.{◌≡◌, refl, sym, ◌∙◌, ap, ℕ, Bool, List, [], ◌∷◌, ◌++◌, length, map}
+use Rattle.std.proofs.Common.{◌≡◌, refl, ◌∙◌, ap, ℕ, Bool, List, [], ◌++◌, length, map}
 use Rattle.h265_model.specs.Plain.{joined}
 use Rattle.h265_model.specs.Bits.{bytes}
 use Rattle.h265_model.specs.NalUnits.{escape, start_code, nal_unit_bytes}
-use Rattle.h265_model.specs.SliceHead.{Head, head_bits}
+use Rattle.h265_model.specs.SliceHead.{head_bits}
 use Rattle.h265_model.specs.Stream.{nal_header, but_last, slice_piece}
 
 pub record Parts (idr : Bool) (poc : ℕ) (rows : List (List ℕ)) (offsets head header before unit body : List ℕ) : Type 0 where

@@ -1,10 +1,7 @@
-use Rattle.std.proofs.Common.{◌≡◌, ℕ, ◌<◌, ◌-◌, ◌++◌, List, length, take, map, sym, ◌∙◌, ap, subst, arith}
+use Rattle.std.proofs.Common.{◌≡◌, ℕ, ◌<◌, ◌-◌, List, length, take, map, sym, ◌∙◌, ap, subst, arith}
 use Rattle.std.specs.List.{All}
 use Rattle.std.proofs.lemmas.List.{length-map}
-use Rattle.h265_model.specs.Plain.{joined}
-use Rattle.h265_model.specs.Bits.{bytes}
-use Rattle.h265_model.specs.NalUnits.{escape, start_code}
-use Rattle.h265_model.specs.SliceHead.{Head, head_bits}
+use Rattle.h265_model.specs.NalUnits.{escape}
 use Rattle.h265_model.specs.Stream.{but_last}
 use Rattle.slice_assembly.proofs.EntryPoints.{offsets_are, offsets_some}
 use Rattle.slice_assembly.proofs.Pieces.{piece_is}

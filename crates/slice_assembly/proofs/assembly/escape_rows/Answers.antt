@@ -1,4 +1,4 @@
-use Rattle.std.proofs.Common.{◌≡◌, ℕ, length, ◌∙◌, ap, arith}
+use Rattle.std.proofs.Common.{length, ◌∙◌, ap, arith}
 use Rattle.h265_model.specs.NalUnits.{escape}
 use Rattle.slice_assembly.proofs.EscapeLengths.{fits}
 use Rattle.slice_assembly.proofs.assembly.escape_rows.Goals as goal

@@ -1,4 +1,4 @@
-use Rattle.std.proofs.Common.{◌≡◌, ◌<◌, ◌^◌, length, take, map}
+use Rattle.std.proofs.Common.{◌≡◌, length, take, map}
 use Rattle.h265_model.specs.Plain.{joined}
 use Rattle.h265_model.specs.NalUnits.{escape}
 use Rattle.slice_assembly.proofs.assembly.escape_rows.Given as goal
