@@ -1,0 +1,3 @@
+pub mod EntryPoints
+pub mod EscapeLengths
+pub mod Pieces
