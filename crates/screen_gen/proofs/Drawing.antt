@@ -1,5 +1,5 @@
 -- The words of a generator, and what they give.
-use Rattle.std.proofs.Common.{◌≡◌, refl, sym, ◌∙◌, ap, subst, ℕ, zero, suc, ◌+◌, ◌/◌, ◌%◌, ◌*◌, ◌<◌, ◌≤◌, true, false, List, [], ◌∷◌, ◌++◌, length, get_or, arith}
+use Rattle.std.proofs.Common.{◌≡◌, refl, sym, ◌∙◌, ap, subst, ℕ, zero, suc, ◌+◌, ◌%◌, ◌*◌, ◌<◌, ◌≤◌, true, false, List, [], ◌∷◌, ◌++◌, length, get_or, arith}
 use Rattle.std.specs.Prelude.{nat_lt}
 use Rattle.std.specs.List.{All}
 use Rattle.std.proofs.lemmas.Bool.Decides.{nat_tests}
@@ -7,7 +7,7 @@ use Rattle.std.proofs.lemmas.Nat.{mul-le}
 use Rattle.rand_xoshiro.specs.SplitMix64.{mix_u64}
 use Rattle.h265_model.specs.declared.line.Rect.{Rect}
 use Rattle.h265_model.specs.declared.line.Rgb.{Rgb}
-use Rattle.paint_script.specs.Spellable.{IsSpellable, IsSpellableRect, IsSpellableColour}
+use Rattle.paint_script.specs.Spellable.{IsSpellable, IsSpellableColour}
 use Rattle.h265_model.specs.declared.line.Line.{Line}
 use Rattle.h265_model.specs.declared.line.Line.TheVariants.{Fill, Blit}
 use Rattle.screen_gen.specs.Generated.{state_after, colour_of, colours, rect_of, line_of, drawn}

@@ -1,4 +1,4 @@
-use Rattle.std.proofs.Common.{◌≡◌, ◌∙◌}
+use Rattle.std.proofs.Common.{◌∙◌}
 use Rattle.screen_gen.proofs.Drawing.{fill_is, blit_is, drawn_is, spellable_blit_is}
 use Rattle.screen_gen.proofs.draw.draw_line.Goals as goal
 

@@ -1,4 +1,4 @@
-use Rattle.std.proofs.Common.{◌≡◌, sym, ◌∙◌, ap, refl, ◌++◌, ◌∷◌, [], ℕ, ◌+◌}
+use Rattle.std.proofs.Common.{sym, ◌∙◌, ap, refl, ◌++◌, ◌∷◌, [], ℕ}
 use Rattle.rand_xoshiro.specs.SplitMix64.{mix_u64}
 use Rattle.h265_model.specs.declared.line.Rgb.{Rgb}
 use Rattle.screen_gen.specs.Generated.{colours, state_after, colour_of}

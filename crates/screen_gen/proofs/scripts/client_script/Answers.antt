@@ -1,4 +1,4 @@
-use Rattle.std.proofs.Common.{◌≡◌, sym, ◌∙◌, ap, ℕ, ◌+◌, ◌-◌, ◌++◌, ◌∷◌, [], length, arith, length-append}
+use Rattle.std.proofs.Common.{sym, ◌∙◌, ap, ℕ, ◌+◌, ◌-◌, ◌++◌, ◌∷◌, [], length, arith, length-append}
 use Rattle.screen_gen.specs.Generated.{lines_from}
 use Rattle.screen_gen.proofs.NextLines.{one_line, no_more}
 use Rattle.screen_gen.proofs.scripts.client_script.Goals as goal

@@ -1,4 +1,4 @@
-use Rattle.std.proofs.Common.{◌≡◌, sym, ◌∙◌}
+use Rattle.std.proofs.Common.{sym, ◌∙◌}
 use Rattle.screen_gen.proofs.NextLines.{cut_next, paint_may_be_next}
 use Rattle.screen_gen.proofs.scripts.next_line.Goals as goal
 
