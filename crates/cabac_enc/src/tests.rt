@@ -52,6 +52,9 @@ fn samples_between_runs(rt: HostRuntime) -> Result<(), Fail> {
         place: Place::Terminate,
     })?;
     coder.pcm(&[1, 2, 3])?;
+    let contexts = coder.contexts();
+    assert_eq!(rt; contexts.get(0), 3);
+    assert_eq!(rt; contexts.get(1), 2);
     coder.bin(Bin {
         value: true,
         place: Place::Terminate,
