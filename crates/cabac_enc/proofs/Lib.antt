@@ -1,0 +1,5 @@
+pub mod Digits
+pub mod Lists
+pub mod Steps
+pub mod Ending
+pub mod Grown
