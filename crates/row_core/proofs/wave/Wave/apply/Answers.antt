@@ -1,4 +1,4 @@
-use Rattle.std.proofs.Common.{◌≡◌, ◌<◌, ◌^◌, sym, ◌∙◌, ap, subst, arith}
+use Rattle.std.proofs.Common.{◌<◌, ◌^◌, sym, ◌∙◌, ap, subst, arith}
 use Rattle.h265_model.specs.Wave.{Wave, RowState}
 use Rattle.row_core.specs.Events.{event_of}
 use Rattle.row_core.proofs.Lawful.{fits}
