@@ -49,6 +49,35 @@ doubled r low high =
     let f = and_parts _ _ d.1 in
     record { enough = leb-true _ _ a.0; is = eqb-true _ _ b.0; few = leb-true _ _ d.0; least = leb-true _ _ f.0; most = leb-true _ _ f.1 }
 
+all_double_once : agree_below (λ r. nat_lt r 128 || doublings r == 1) (λ r. true) 256 ≡ true
+unfolding doublings digits_up_to
+all_double_once = refl
+
+pub doubles_once : (r : ℕ) → 128 ≤ r → r < 256 → 1 ≡ doublings r
+doubles_once r low high =
+    let e : (nat_lt r 128 || doublings r == 1) ≡ true = agree_below_at (λ r. nat_lt r 128 || doublings r == 1) (λ r. true) 256 r all_double_once high in
+    let t : nat_lt r 128 ≡ false = le-ltb r 128 low in
+    sym (eqb-true _ _ (rw t at e))
+
+-- at least 128 of the range is left to the more probable value
+abbrev leaves_enough : ℕ → Bool
+leaves_enough n = nat_le (lps_range (n / 4) (n % 4)) (128 + 48 * (n % 4))
+
+all_leave_enough : agree_below leaves_enough (λ n. true) 504 ≡ true
+unfolding lps_range
+all_leave_enough = refl
+
+share_below : (byte q : ℕ) → byte < 126 → q < 4 → lps_range byte q ≤ 128 + 48 * q
+share_below byte q h k =
+    let a : (4 * byte + q) / 4 ≡ byte = omega arith in
+    let b : (4 * byte + q) % 4 ≡ q = omega arith in
+    let e : leaves_enough (4 * byte + q) ≡ true = agree_below_at leaves_enough (λ n. true) 504 (4 * byte + q) all_leave_enough (omega arith) in
+    let f : lps_range ((4 * byte + q) / 4) ((4 * byte + q) % 4) ≤ 128 + 48 * ((4 * byte + q) % 4) = leb-true _ _ e in
+    rw (a, b) at f
+
+pub half_left : (byte range small : ℕ) → byte < 126 → 256 ≤ range → range ≤ 510 → small ≡ lps_range byte (range / 64 % 4) → 128 ≤ range - small
+half_left byte range small h low high is = let m = share_below byte (range / 64 % 4) h (omega arith) in omega arith
+
 -- ---- a number of a state doubled
 
 limit_small : (held : Option ℕ) → Limits held → limit held ≤ 2
@@ -144,6 +173,9 @@ renormal_at held w low range k wide less room d is =
 
 pub renormal : (held : Option ℕ) (w low range : ℕ) → w ≤ 20 → 4 ≤ range → range < 510 → low + range ≤ limit held * 2 ^ w → Renormal held w low range (count_leading_zeros 32 range - 23)
 renormal held w low range wide some less room = let d = doubled range some (omega arith) in renormal_at held w low range (count_leading_zeros 32 range - 23) wide less room d d.is
+
+pub once_more : (held : Option ℕ) (w low range : ℕ) → w ≤ 20 → 128 ≤ range → range < 256 → low + range ≤ limit held * 2 ^ w → Renormal held w low range 1
+once_more held w low range wide some less room = renormal_at held w low range 1 wide (omega arith) room (doubled range (omega arith) (omega arith)) (doubles_once range some less)
 
 pub renormalised : (result : Result (Unit {0}) NoMemory) (s new : State) (k : ℕ) → Renormal s.pending.held s.width s.low s.range k → s.range < 510 → 9 ≤ s.width →
     OnOk result (Advances (record s { low = s.low * 2 ^ k % 2 ^ 32; range = s.range * 2 ^ k % 2 ^ 32; width = s.width + k }) new) → OnOk result (Scales s new)

@@ -88,6 +88,18 @@ impl ByteCoder {
         self.advance(low << doublings, range << doublings, self.width + doublings)
     }
 
+    // The range, of at least 128 and below 256, doubles once, and the number with it.
+    #[inline(always)]
+    fn double(&mut self, range: u32) -> Result<(), NoMemory>
+        requires least { 128 ≤ range }
+        requires most { range < 256 }
+        requires room { self.old.low + range ≤ limit self.old.pending.held * 2 ^ self.old.width }
+        ensures ok { OnOk result (Scales (record self.old { range = range }) self.new) }
+        ensures err { OnErr result (self.new ≡ self.old) }
+    {
+        self.advance(self.low << 1, range << 1, self.width + 1)
+    }
+
     #[inline(always)]
     fn context_bin(&mut self, n: u32, value: bool) -> Result<(), NoMemory>
         requires not_ended { 0 < self.old.range }
@@ -104,7 +116,7 @@ impl ByteCoder {
                 self.contexts.step(n, value);
                 return Ok(());
             }
-            self.renormalise(self.low, large)?;
+            self.double(large)?;
             self.contexts.step(n, value);
             return Ok(());
         }
