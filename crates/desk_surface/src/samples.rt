@@ -1,0 +1,90 @@
+//! The samples of tiles.
+ghost use Rattle.std.specs.Prelude.{◌≡◌, ℕ, ◌+◌, ◌*◌, ◌<◌, ◌++◌, OnOk, IfOk, map, flat_map, length};
+ghost use Rattle.std.specs.List.{All};
+ghost use Rattle.h265_model.specs.Plain.{coded, ctus, below, ctu_x, ctu_y, place_values};
+ghost use Rattle.h265_model.specs.Desk.{tile_count, tile_samples};
+ghost use Rattle.px_plane.specs.Planes.{picture_of};
+
+use h265_model::NoMemory;
+use px_plane::Picture;
+use std::alloc::Global;
+
+// Adds a row of 32 samples from (x, y) on: 0 outside the coded picture.
+fn append_row(
+    out: &mut Vec<u8>,
+    picture: &Picture,
+    component: u32,
+    x: u32,
+    y: u32,
+) -> Result<(), NoMemory>
+    requires component { component < 3 }
+    requires across { x < coded picture.now.size.w }
+    requires down { y < 8192 }
+    ensures { OnOk result (out.new.items ≡ out.old.items ++ map (λ i. picture_of picture.now component (x + i) y) (below 32)) }
+{
+    let size = picture.size();
+    let (w, h) = (size.w().div_ceil(8) * 8, size.h().div_ceil(8) * 8);
+    let within = if y < h { (w - x).min(32) } else { 0 };
+    if within > 0 {
+        out.extend_from_slice(picture.row(component, x, y, within))?;
+    }
+    for _ in within..32 {
+        out.push(0)?;
+    }
+    Ok(())
+}
+
+// Adds the samples of a component of the tile at (x, y), in rows from the top.
+fn append_plane(
+    out: &mut Vec<u8>,
+    picture: &Picture,
+    component: u32,
+    x: u32,
+    y: u32,
+) -> Result<(), NoMemory>
+    requires component { component < 3 }
+    requires across { x < coded picture.now.size.w }
+    requires down { y < 8160 }
+    ensures { OnOk result (out.new.items ≡ out.old.items ++ place_values 32 32 (λ i j. picture_of picture.now component (x + i) (y + j))) }
+{
+    for row in 0..32 {
+        append_row(out, picture, component, x, y + row)?;
+    }
+    Ok(())
+}
+
+// Adds the samples of a tile, where `across` tiles stand side by side.
+fn append_tile(
+    out: &mut Vec<u8>,
+    picture: &Picture,
+    across: u32,
+    tile: u32,
+) -> Result<(), NoMemory>
+    requires across { across ≡ ctus picture.now.size.w }
+    requires tile { tile < tile_count picture.now.size }
+    ensures { OnOk result (out.new.items ≡ out.old.items ++ tile_samples picture.now.size (picture_of picture.now) tile) }
+{
+    let _size = picture.size();
+    let (x, y) = (tile % across * 32, tile / across * 32);
+    append_plane(out, picture, 0, x, y)?;
+    append_plane(out, picture, 1, x, y)?;
+    append_plane(out, picture, 2, x, y)
+}
+
+/// The samples of the listed tiles, each G, B and R in rows of 32: 0 outside the desktop.
+pub(crate) fn samples_of(
+    alloc: Global,
+    picture: &Picture,
+    tiles: &[u32],
+) -> Result<Vec<u8>, NoMemory>
+    requires { All (λ t. t < tile_count picture.now.size) tiles.now }
+    ensures { IfOk result (λ samples. samples.items ≡ flat_map (tile_samples picture.now.size (picture_of picture.now)) tiles.now) }
+{
+    let across = picture.size().w().div_ceil(32);
+    let mut samples = Vec::new(alloc);
+    samples.reserve(tiles.len() * 3072)?;
+    for tile in tiles {
+        append_tile(&mut samples, picture, across, *tile)?;
+    }
+    Ok(samples)
+}
