@@ -36,7 +36,7 @@ pub(crate) fn raise(flags: &mut [bool], size: Size, rect: Rect)
     ensures length { length flags.new ≡ length flags.old }
     ensures raised { (t : ℕ) → t < tile_count size → slice_index_or flags.new t false ≡ (slice_index_or flags.old t false || meets_tile size t rect) }
 {
-    let across = size.w().div_ceil(32) as usize;
+    let across = ((size.w() + 31) / 32) as usize;
     if let Some(part) = rect.clip(size) {
         let right = (part.x + part.w - 1) / 32 + 1;
         let bottom = (part.y + part.h - 1) / 32 + 1;

@@ -23,7 +23,7 @@ fn append_row(
     ensures { OnOk result (out.new.items ≡ out.old.items ++ map (λ i. picture_of picture.now component (x + i) y) (below 32)) }
 {
     let size = picture.size();
-    let (w, h) = (size.w().div_ceil(8) * 8, size.h().div_ceil(8) * 8);
+    let (w, h) = ((size.w() + 7) / 8 * 8, (size.h() + 7) / 8 * 8);
     let within = if y < h { (w - x).min(32) } else { 0 };
     if within > 0 {
         out.extend_from_slice(picture.row(component, x, y, within))?;
@@ -80,7 +80,7 @@ pub(crate) fn samples_of(
     requires { All (λ t. t < tile_count picture.now.size) tiles.now }
     ensures { IfOk result (λ samples. samples.items ≡ flat_map (tile_samples picture.now.size (picture_of picture.now)) tiles.now) }
 {
-    let across = picture.size().w().div_ceil(32);
+    let across = (picture.size().w() + 31) / 32;
     let mut samples = Vec::new(alloc);
     samples.reserve(tiles.len() * 3072)?;
     for tile in tiles {

@@ -48,7 +48,7 @@ impl Surface {
         ensures clean { IfOk result (λ s. IsFlagged s []) }
     {
         let picture = Picture::black(alloc, size)?;
-        let tiles = size.w().div_ceil(32) * size.h().div_ceil(32);
+        let tiles = (size.w() + 31) / 32 * ((size.h() + 31) / 32);
         let flags = vec![in alloc; false; tiles as usize]?;
         Ok(Surface { picture, flags })
     }
