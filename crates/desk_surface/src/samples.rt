@@ -1,5 +1,5 @@
 //! The samples of tiles.
-ghost use Rattle.std.specs.Prelude.{◌≡◌, ℕ, ◌+◌, ◌*◌, ◌<◌, ◌++◌, OnOk, IfOk, map, flat_map, length};
+ghost use Rattle.std.specs.Prelude.{◌≡◌, ℕ, ◌+◌, ◌*◌, ◌<◌, ◌≤◌, ◌++◌, OnOk, IfOk, map, flat_map, length};
 ghost use Rattle.std.specs.List.{All};
 ghost use Rattle.h265_model.specs.Plain.{coded, ctus, below, ctu_x, ctu_y, place_values};
 ghost use Rattle.h265_model.specs.Desk.{tile_count, tile_samples};
@@ -8,6 +8,41 @@ ghost use Rattle.px_plane.specs.Planes.{picture_of};
 use h265_model::NoMemory;
 use px_plane::Picture;
 use std::alloc::Global;
+
+const ZEROS: [u8; 32] = [0; 32];
+
+// How many of 32 places of a row, from (x, y) on, lie in the coded picture.
+fn places_within(picture: &Picture, x: u32, y: u32) -> u32
+    requires { x < coded picture.now.size.w }
+    ensures most { result ≤ 32 }
+    ensures across { x + result ≤ coded picture.now.size.w }
+    ensures down { 0 < result → y < coded picture.now.size.h }
+    ensures outside { (component i : ℕ) → result ≤ i → i < 32 → picture_of picture.now component (x + i) y ≡ 0 }
+{
+    let size = picture.size();
+    let (w, h) = ((size.w() + 7) / 8 * 8, (size.h() + 7) / 8 * 8);
+    if y < h { (w - x).min(32) } else { 0 }
+}
+
+// Adds the samples of so many places of a row, from (x, y) on.
+fn append_front(
+    out: &mut Vec<u8>,
+    picture: &Picture,
+    component: u32,
+    x: u32,
+    y: u32,
+    count: u32,
+) -> Result<(), NoMemory>
+    requires component { component < 3 }
+    requires across { x + count ≤ coded picture.now.size.w }
+    requires down { 0 < count → y < coded picture.now.size.h }
+    ensures { OnOk result (out.new.items ≡ out.old.items ++ map (λ i. picture_of picture.now component (x + i) y) (below count)) }
+{
+    if count > 0 {
+        out.extend_from_slice(picture.row(component, x, y, count))?;
+    }
+    Ok(())
+}
 
 // Adds a row of 32 samples from (x, y) on: 0 outside the coded picture.
 fn append_row(
@@ -19,18 +54,11 @@ fn append_row(
 ) -> Result<(), NoMemory>
     requires component { component < 3 }
     requires across { x < coded picture.now.size.w }
-    requires down { y < 8192 }
     ensures { OnOk result (out.new.items ≡ out.old.items ++ map (λ i. picture_of picture.now component (x + i) y) (below 32)) }
 {
-    let size = picture.size();
-    let (w, h) = ((size.w() + 7) / 8 * 8, (size.h() + 7) / 8 * 8);
-    let within = if y < h { (w - x).min(32) } else { 0 };
-    if within > 0 {
-        out.extend_from_slice(picture.row(component, x, y, within))?;
-    }
-    for _ in within..32 {
-        out.push(0)?;
-    }
+    let within = places_within(picture, x, y);
+    append_front(out, picture, component, x, y, within)?;
+    out.extend_from_slice(&ZEROS[within as usize..])?;
     Ok(())
 }
 
