@@ -2,3 +2,4 @@ pub mod Marks
 pub mod Meets
 pub mod Outside
 pub mod RaisedRows
+pub mod RowsMore

@@ -96,7 +96,8 @@ fn append_tile(
     let (x, y) = (tile % across * 32, tile / across * 32);
     append_plane(out, picture, 0, x, y)?;
     append_plane(out, picture, 1, x, y)?;
-    append_plane(out, picture, 2, x, y)
+    append_plane(out, picture, 2, x, y)?;
+    Ok(())
 }
 
 /// The samples of the listed tiles, each G, B and R in rows of 32: 0 outside the desktop.
@@ -110,9 +111,9 @@ pub(crate) fn samples_of(
 {
     let across = (picture.size().w() + 31) / 32;
     let mut samples = Vec::new(alloc);
-    samples.reserve(tiles.len() * 3072)?;
-    for tile in tiles {
-        append_tile(&mut samples, picture, across, *tile)?;
+    samples.reserve(tiles.len().saturating_mul(3072))?;
+    for place in 0..tiles.len() {
+        append_tile(&mut samples, picture, across, tiles[place])?;
     }
     Ok(samples)
 }
