@@ -3,3 +3,4 @@ pub mod Meets
 pub mod Outside
 pub mod RaisedRows
 pub mod RowsMore
+pub mod Jobs

@@ -102,6 +102,7 @@ impl Surface {
         ensures lowered { IfOk result (λ job. IsFlagged self.new []) }
         ensures err { OnErr result (self.new ≡ self.old) }
     {
+        let _size = self.picture.size();
         let alloc = *self.flags.allocator();
         let tiles = raised(alloc, &self.flags)?;
         let samples = samples_of(alloc, &self.picture, &tiles)?;
