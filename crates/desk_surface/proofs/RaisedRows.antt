@@ -53,13 +53,13 @@ module _ (old now : List Bool) (across left right top j : ℕ) (some : 0 < acros
       → get_or marked (y * across + x) false ≡ (get_or old (y * across + x) false || is_between left right top (j + 1) x y)
   flag_at x y in_row was = elim (cases_order y j) [
     | inr (inl less) ↦
-      let h : (y + 1) * across ≤ j * across = mul-le (y + 1) across j across (omega arith) (omega arith) in
-      flag_before now marks (j * across + left) (right - left) (y * across + x) (omega arith) (omega arith)
-      ∙ (was ∙ ap (λ b. get_or old (y * across + x) false || b) (sym (other_row left right top j x y (inl less))))
+        let h : (y + 1) * across ≤ j * across = mul-le (y + 1) across j across (omega arith) (omega arith) in
+        flag_before now marks (j * across + left) (right - left) (y * across + x) (omega arith) (omega arith)
+        ∙ (was ∙ ap (λ b. get_or old (y * across + x) false || b) (sym (other_row left right top j x y (inl less))))
     | inr (inr more) ↦
-      let h : (j + 1) * across ≤ y * across = mul-le (j + 1) across y across (omega arith) (omega arith) in
-      flag_behind now marks (j * across + left) (right - left) (y * across + x) (omega arith) long (omega arith)
-      ∙ (was ∙ ap (λ b. get_or old (y * across + x) false || b) (sym (other_row left right top j x y (inr more))))
+        let h : (j + 1) * across ≤ y * across = mul-le (j + 1) across y across (omega arith) (omega arith) in
+        flag_behind now marks (j * across + left) (right - left) (y * across + x) (omega arith) long (omega arith)
+        ∙ (was ∙ ap (λ b. get_or old (y * across + x) false || b) (sym (other_row left right top j x y (inr more))))
     | inl same ↦ in_this x y in_row same was (cases_lt x left) (cases_lt x right)
   ]
     where

@@ -9,3 +9,5 @@ pub use h265_model::{Job, Line, NoMemory};
 pub use px_plane::{Picture, Size};
 pub use surface::Surface;
 
+#[cfg(test)]
+mod tests;

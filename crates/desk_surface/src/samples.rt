@@ -82,12 +82,7 @@ fn append_plane(
 }
 
 // Adds the samples of a tile, where `across` tiles stand side by side.
-fn append_tile(
-    out: &mut Vec<u8>,
-    picture: &Picture,
-    across: u32,
-    tile: u32,
-) -> Result<(), NoMemory>
+fn append_tile(out: &mut Vec<u8>, picture: &Picture, across: u32, tile: u32) -> Result<(), NoMemory>
     requires across { across ≡ ctus picture.now.size.w }
     requires tile { tile < tile_count picture.now.size }
     ensures { OnOk result (out.new.items ≡ out.old.items ++ tile_samples picture.now.size (picture_of picture.now) tile) }

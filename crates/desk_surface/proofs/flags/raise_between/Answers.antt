@@ -25,9 +25,9 @@ loop-row-preserved c =
       raised = λ t less.
           let split : t / across * across + t % across ≡ t = div-add-mod' t across in
           subst (λ (k : ℕ). get_or (put_mid at n c.loop-row.flags marks) k false ≡ (get_or c.args.flags.now k false || is_between c.args.left c.args.right c.args.top (j + 1) (t % across) (t / across)))
-              split
-              (flag_at c.args.flags.now c.loop-row.flags across c.args.left c.args.right c.args.top j (c.requires.some) columns.0 columns.1 (omega arith) tall (t % across) (t / across) (mod-lt t c.requires.some)
-              (subst (λ (k : ℕ). get_or c.loop-row.flags k false ≡ (get_or c.args.flags.now k false || is_between c.args.left c.args.right c.args.top j (t % across) (t / across))) (sym split) (c.loop-row.invariant.raised t less)));
+          split
+          (flag_at c.args.flags.now c.loop-row.flags across c.args.left c.args.right c.args.top j (c.requires.some) columns.0 columns.1 (omega arith) tall (t % across) (t / across) (mod-lt t c.requires.some)
+          (subst (λ (k : ℕ). get_or c.loop-row.flags k false ≡ (get_or c.args.flags.now k false || is_between c.args.left c.args.right c.args.top j (t % across) (t / across))) (sym split) (c.loop-row.invariant.raised t less)));
     }
   where
     kept : (xs ys : List Bool) (a k : ℕ) → a + k ≤ length xs → length ys ≡ k → length (put_mid a k xs ys) ≡ length xs

@@ -35,10 +35,10 @@ returns-clause-job c = λ lines since shows flagged.
     let long : length c.deref.result.now ≡ tile_count size = ap length c.deref.ensures.value ∙ c.self.invariant in
     let flags : c.deref.result.now ≡ map (is_touched size since) (below (tile_count size)) = c.deref.ensures.value ∙ marked.flags in
     let tiles : c.in_ok-tiles.tiles.items ≡ touched_by size since =
-        c.in_ok-tiles.ensures ∙ (ap (raised c.deref.result.now) long ∙ raised_touched size c.deref.result.now since flags) in
+    c.in_ok-tiles.ensures ∙ (ap (raised c.deref.result.now) long ∙ raised_touched size c.deref.result.now since flags) in
     let samples : c.in_ok-samples.samples.items ≡ flat_map (tile_samples size (coded_picture size (raster size lines))) (touched_by size since) =
-        c.in_ok-samples.ensures ∙ (ap (flat_map (tile_samples size (picture_of inside.shown))) (c.deref-2.ensures.value ∙ tiles)
-        ∙ ap (λ (p : Picture). flat_map (tile_samples size p) (touched_by size since)) (shown_is_coded inside.shown (raster size lines) shown)) in
+    c.in_ok-samples.ensures ∙ (ap (flat_map (tile_samples size (picture_of inside.shown))) (c.deref-2.ensures.value ∙ tiles)
+    ∙ ap (λ (p : Picture). flat_map (tile_samples size p) (touched_by size since)) (shown_is_coded inside.shown (raster size lines) shown)) in
     let listed : c.from_vec.result ≡ touched_by size since = c.from_vec.ensures ∙ tiles in
     let given : c.from_vec-2.result ≡ flat_map (tile_samples size (coded_picture size (raster size lines))) (touched_by size since) = c.from_vec-2.ensures ∙ samples in
     subst (λ (s : Painted). record { number = c.args.number; tiles = c.from_vec.result; samples = c.from_vec-2.result } ≡ job_for s.shown.size c.args.number (touched_by s.shown.size since) (raster s.shown.size lines)) same
