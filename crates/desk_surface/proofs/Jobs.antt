@@ -1,17 +1,12 @@
 -- The tiles of a job, and their samples.
-use Rattle.std.proofs.Common.{◌≡◌, ℕ, zero, suc, ◌+◌, ◌*◌, ◌^◌, ◌<◌, ◌≤◌, Bool, true, false, if◌then◌else◌, List, [], ◌∷◌, ◌++◌, length, map, get_or, slice_index_or, refl, sym, ap, ◌∙◌, subst, arith, length-append}
+use Rattle.std.proofs.Common.{◌≡◌, ℕ, zero, suc, ◌*◌, ◌^◌, ◌<◌, ◌≤◌, Bool, true, false, if◌then◌else◌, List, [], ◌∷◌, ◌++◌, length, map, get_or, slice_index_or, refl, sym, ap, ◌∙◌, arith}
 use Rattle.std.proofs.lemmas.Nat.{mul-le}
 use Rattle.std.proofs.lemmas.List.FromFn.{get_or-map-range_with_len}
-use Rattle.std.proofs.lemmas.List.Elements.{filter_passes}
-use Rattle.std.specs.Prelude.{filter, IsTrue}
+use Rattle.std.specs.Prelude.{filter}
 use Rattle.std.specs.List.{AllByRecursion}
 use Rattle.h265_model.specs.declared.line.Line.{Line}
 use Rattle.h265_model.specs.Plain.{Size, ctus, below}
-use Rattle.h265_model.specs.Words.{is_size}
-use Rattle.h265_model.specs.Raster.{raster, coded_picture}
-use Rattle.h265_model.specs.Desk.{tile_count, is_touched, touched_by, tile_samples}
-use Rattle.px_plane.specs.Planes.{Planes, picture_of, ShowsLines}
-use Rattle.px_plane.proofs.Shown.{shown_is_coded}
+use Rattle.h265_model.specs.Desk.{tile_count, is_touched, touched_by}
 use Rattle.desk_surface.specs.Damage.{raised}
 use Rattle.desk_surface.proofs.RowsMore.{range-more}
 

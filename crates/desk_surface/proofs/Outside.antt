@@ -1,11 +1,11 @@
 -- Samples outside the coded picture are 0.
-use Rattle.std.proofs.Common.{◌≡◌, ℕ, ◌+◌, ◌-◌, ◌<◌, ◌≤◌, ◌&&◌, ◌⊎◌, Bool, true, false, cond, List, [], ◌++◌, length, map, drop, get_or, replicate, nat_lt, refl, sym, ap, ◌∙◌, inl, inr, arith, length-append, rules}
+use Rattle.std.proofs.Common.{◌≡◌, ℕ, ◌-◌, ◌<◌, ◌≤◌, ◌&&◌, ◌⊎◌, List, ◌++◌, length, map, get_or, nat_lt, sym, ◌∙◌, inl, inr, arith, length-append}
 use Rattle.std.proofs.lemmas.List.{places}
 use Rattle.std.proofs.lemmas.Bool.{cases_lt, cond-false}
 use Rattle.std.proofs.lemmas.Bool.Decides.{nat_tests}
 use Rattle.std.proofs.lemmas.List.FromFn.{fill_by_all, get_or-map-range_with_len, length-map-range_with_len}
 use Rattle.h265_model.specs.Plain.{coded, below}
-use Rattle.px_plane.specs.Planes.{Planes, picture_of, plane_of}
+use Rattle.px_plane.specs.Planes.{Planes, picture_of}
 
 pub outside : (p : Planes) (c x y : ℕ) → (coded p.size.w ≤ x) ⊎ (coded p.size.h ≤ y) → picture_of p c x y ≡ 0
 unfolding picture_of

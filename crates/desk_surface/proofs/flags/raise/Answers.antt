@@ -1,8 +1,6 @@
-use Rattle.std.proofs.Common.{◌≡◌, ℕ, ◌+◌, ◌*◌, ◌-◌, ◌/◌, ◌%◌, ◌<◌, ◌≤◌, ◌||◌, false, length, slice_index_or, sym, ap, subst, ◌∙◌, arith}
+use Rattle.std.proofs.Common.{◌≡◌, ℕ, ◌+◌, ◌-◌, ◌/◌, ◌%◌, ◌||◌, false, slice_index_or, ap, ◌∙◌, arith}
 use Rattle.h265_model.specs.declared.line.Rect.{Rect}
 use Rattle.h265_model.specs.Plain.{ctus}
-use Rattle.h265_model.specs.Desk.{meets_tile}
-use Rattle.px_plane.specs.Planes.{clipped}
 use Rattle.desk_surface.specs.Damage.{is_between}
 use Rattle.desk_surface.proofs.Meets.{meets_between}
 use Rattle.desk_surface.proofs.flags.raise.Goals as goal

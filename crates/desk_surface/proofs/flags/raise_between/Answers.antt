@@ -1,4 +1,4 @@
-use Rattle.std.proofs.Common.{◌≡◌, ℕ, ◌+◌, ◌*◌, ◌-◌, ◌/◌, ◌%◌, ◌<◌, ◌≤◌, ◌||◌, Bool, true, false, List, length, get_or, replicate, take, drop, sym, ap, subst, ◌∙◌, arith, rules, mod-lt}
+use Rattle.std.proofs.Common.{◌≡◌, ℕ, ◌+◌, ◌*◌, ◌-◌, ◌/◌, ◌%◌, ◌≤◌, ◌||◌, Bool, true, false, List, length, get_or, replicate, take, drop, sym, ap, subst, ◌∙◌, arith, rules, mod-lt}
 use Rattle.std.proofs.lemmas.List.{places, length-replicate}
 use Rattle.std.proofs.lemmas.Nat.{mul-le, div-add-mod'}
 use borrow.Rule.Slice.PartMut.{put_mid}

@@ -1,5 +1,5 @@
-use Rattle.std.proofs.Common.{◌≡◌, ℕ, ◌+◌, ◌≤◌, List, ◌++◌, map, ap, sym, ◌∙◌, append_assoc, arith}
-use Rattle.h265_model.specs.Plain.{below, row_values, place_values}
+use Rattle.std.proofs.Common.{◌≡◌, ℕ, ◌+◌, List, ◌++◌, ap, sym, ◌∙◌, append_assoc, arith}
+use Rattle.h265_model.specs.Plain.{row_values, place_values}
 use Rattle.px_plane.specs.Planes.{picture_of}
 use Rattle.desk_surface.proofs.RowsMore.{rows-more}
 use Rattle.desk_surface.proofs.samples.append_plane.Goals as goal

@@ -1,6 +1,6 @@
 use Rattle.std.proofs.Common.{◌≡◌, ℕ, ◌+◌, ◌*◌, ◌/◌, ◌%◌, List, [], ◌++◌, ap, sym, ◌∙◌, append_assoc}
 use Rattle.std.proofs.lemmas.List.{append-nil}
-use Rattle.h265_model.specs.Plain.{ctus, place_values}
+use Rattle.h265_model.specs.Plain.{place_values}
 use Rattle.px_plane.specs.Planes.{picture_of}
 use Rattle.desk_surface.proofs.samples.append_tile.Goals as goal
 

@@ -1,4 +1,4 @@
-use Rattle.std.proofs.Common.{◌≡◌, ℕ, ◌+◌, ◌*◌, ◌/◌, ◌≤◌, ap, ◌∙◌, inl, inr, arith}
+use Rattle.std.proofs.Common.{◌≡◌, ◌+◌, ap, ◌∙◌, inl, inr, arith}
 use Rattle.h265_model.specs.Plain.{Size, coded}
 use Rattle.desk_surface.proofs.Outside.{outside}
 use Rattle.desk_surface.proofs.samples.places_within.Goals as goal

@@ -1,11 +1,8 @@
-use Rattle.std.proofs.Common.{rules, ◌≡◌, ℕ, ◌<◌, ◌^◌, [], List, Bool, false, map, flat_map, length, replicate, refl, sym, ap, subst, ◌∙◌, arith}
-use Rattle.std.specs.Vec.{with_items}
-use Rattle.h265_model.specs.declared.line.Line.{Line}
-use Rattle.h265_model.specs.declared.line.Job.{Job}
+use Rattle.std.proofs.Common.{rules, ◌≡◌, ℕ, ◌<◌, ◌^◌, false, map, flat_map, length, replicate, sym, ap, subst, ◌∙◌, arith}
 use Rattle.h265_model.specs.Plain.{Size, Picture, below}
 use Rattle.h265_model.specs.Raster.{raster, coded_picture}
 use Rattle.h265_model.specs.Desk.{tile_count, is_touched, touched_by, tile_samples, job_for}
-use Rattle.px_plane.specs.Planes.{Planes, picture_of, ShowsLines}
+use Rattle.px_plane.specs.Planes.{picture_of, ShowsLines}
 use Rattle.px_plane.proofs.Shown.{in_limits, shown_is_coded}
 use Rattle.desk_surface.specs.Damage.{Painted, IsFlagged, raised}
 use Rattle.desk_surface.proofs.Marks.{flagged_none}

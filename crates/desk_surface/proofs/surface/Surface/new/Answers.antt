@@ -1,7 +1,7 @@
-use Rattle.std.proofs.Common.{rules, ◌≡◌, ℕ, ◌∙◌, ap, sym, replicate, map, false, [], List, Bool}
+use Rattle.std.proofs.Common.{rules, ◌≡◌, ◌∙◌, ap, sym, replicate, map, false, []}
 use Rattle.h265_model.specs.Plain.{Size, below}
 use Rattle.h265_model.specs.Desk.{tile_count, is_touched}
-use Rattle.px_plane.specs.Planes.{Planes, black}
+use Rattle.px_plane.specs.Planes.{Planes}
 use Rattle.desk_surface.proofs.Marks.{flagged_none}
 use Rattle.desk_surface.proofs.surface.Surface.new.Goals as goal
 

@@ -1,9 +1,8 @@
-use Rattle.std.proofs.Common.{◌≡◌, ℕ, ◌<◌, ◌||◌, ◌∷◌, [], ◌++◌, ◌∙◌, ap, sym, subst, map, false, List, Bool, length, get_or, arith}
+use Rattle.std.proofs.Common.{◌≡◌, ℕ, ◌<◌, ◌||◌, ◌∙◌, ap, sym, subst, false, List, Bool, length, get_or, arith}
 use Rattle.std.specs.Vec.{with_items}
 use Rattle.std.proofs.lemmas.List.{with_items_is}
-use Rattle.h265_model.specs.Plain.{Size, below}
-use Rattle.h265_model.specs.Desk.{tile_count, is_touched, meets_tile}
-use Rattle.px_plane.specs.Planes.{Planes}
+use Rattle.h265_model.specs.Plain.{Size}
+use Rattle.h265_model.specs.Desk.{tile_count, meets_tile}
 use Rattle.desk_surface.specs.Damage.{Painted, IsFlagged}
 use Rattle.desk_surface.proofs.Marks.{flagged_more}
 use Rattle.desk_surface.proofs.surface.Surface.touch.Goals as goal
