@@ -8,18 +8,19 @@ pub enum SliceKind {
 }
 
 /// What is coded of a coding unit (7.3.8.5).
-#[derive(Clone, Copy, Debug, PartialEq, Eq)]
+#[derive(Clone, Copy, Debug, Default, PartialEq, Eq)]
 pub enum Kind {
     /// A copy of the same block of the picture before.
     Skip,
     /// The samples themselves.
+    #[default]
     Pcm,
     /// A residual under an intra mode, from 0 to 34 (8.4.2).
     Intra(u32),
 }
 
 /// A coding unit: where its block begins, in samples, the base-2 logarithm of its side (3, 4 or 5), and its kind.
-#[derive(Clone, Copy, Debug, PartialEq, Eq)]
+#[derive(Clone, Copy, Debug, Default, PartialEq, Eq)]
 pub struct Leaf {
     pub x: u32,
     pub y: u32,
