@@ -1,0 +1,17 @@
+-- What a source fills a block with.
+use Rattle.std.specs.Prelude.{◌≡◌, ℕ, List, map, pos}
+use Rattle.h265_model.specs.Residual.{AreLevels}
+use Rattle.h265_model.specs.Tree.{Source}
+use Rattle.h265_model.specs.declared.leaf.Leaf.{Leaf}
+use Rattle.bin_items.specs.Square.{Square}
+
+-- the block has the levels of this leaf and component
+pub record HasLevels (source : Source) (leaf : Leaf) (component : ℕ) (block : Square) : Type 0 where
+  pub side : block.log2 ≡ leaf.log2
+  pub levels : block.levels ≡ source.levels leaf component
+  pub fit : AreLevels block.levels
+
+-- the block has the samples of this leaf and component
+pub record HasSamples (source : Source) (leaf : Leaf) (component : ℕ) (block : Square) : Type 0 where
+  pub side : block.log2 ≡ leaf.log2
+  pub samples : block.levels ≡ map pos (source.samples leaf component)
