@@ -5,9 +5,9 @@ use Rattle.std.specs.List.{AllByRecursion}
 use Rattle.std.proofs.lemmas.Bool.{and_parts, ltb-true, leb-true}
 use Rattle.h265_model.specs.declared.leaf.Leaf.{Leaf}
 use Rattle.h265_model.specs.declared.leaf.Kind.{Kind}
-use Rattle.h265_model.specs.Plain.{Size, coded, leaf_with}
+use Rattle.h265_model.specs.Plain.{Size, coded, leaf_with, ctu_x, ctu_y}
 use Rattle.h265_model.specs.Predict.{is_inside}
-use Rattle.h265_model.specs.Tree.{is_whole, IsCodingUnit, AreQuarters, IsTree, IsMode}
+use Rattle.h265_model.specs.Tree.{is_whole, IsCodingUnit, AreQuarters, IsTree, IsMode, IsLawfulTree}
 use Rattle.h265_model.proofs.ListParts.{all_append}
 use Rattle.pu_code.specs.Cells.{IsUnit}
 
@@ -277,3 +277,14 @@ tree_block size (suc depth) x y leaves h t inside =
         (λ (q : AreQuarters (IsTree size depth) half x y leaves). four e s q f w) u
     go e s true i false q f w = four e s q f w
     go e s false i b u f w = absurd (cc)
+
+-- ---- coding tree units
+
+multiple : (n : ℕ) → n * 32 % 32 ≡ 0
+multiple n = omega arith
+
+pub ctu_corner : (size : Size) (ctu : ℕ) → IsCorner 32 (ctu_x size ctu) (ctu_y size ctu)
+ctu_corner size ctu = record { column = multiple _; row = multiple _ }
+
+pub ctu_units : (size : Size) (ctu : ℕ) (leaves : List Leaf) → IsLawfulTree size ctu leaves → AllByRecursion (IsUnit size) leaves
+ctu_units size ctu leaves t = tree_units size 2 _ _ leaves (omega arith) (ctu_corner size ctu) t

@@ -5,7 +5,7 @@ ghost use Rattle.h265_model.specs.Desk.{tile_count};
 ghost use Rattle.h265_model.specs.Tree.{ctu_items, IsLawfulTree, AreAllowed, IsAllowed};
 ghost use Rattle.bin_items.specs.Growth.{IsOpen, Writes};
 ghost use Rattle.pu_code.specs.Cells.{StandsFor, IsUnit};
-ghost use Rattle.coding_tree.specs.Units.{flag_items, flags_items, unit_items};
+ghost use Rattle.coding_tree.specs.Units.{begins, flag_items, flags_items, unit_items};
 
 use crate::leaf::write_leaf;
 use crate::source::LevelSource;
@@ -82,7 +82,7 @@ fn write_flags<S: BinSink>(sink: &mut S, grid: &Grid, size: Size, leaf: Leaf) ->
     write_flag(sink, grid, size, leaf, 4)
 }
 
-// Writes the flag of the block of this side, where one begins with this unit: where the unit's place is a multiple of the side.
+// Writes the flag of the block of this side, where one begins with this unit.
 fn write_flag<S: BinSink>(
     sink: &mut S,
     grid: &Grid,
@@ -98,10 +98,17 @@ fn write_flag<S: BinSink>(
     ensures taken { (before : List TheLeaf) → StandsFor grid.now before → Writes (flag_items size before leaf log2) (S.stands_for sink.old) (S.stands_for sink.new) result }
     ensures not_ended { IsOpen (S.phase sink.new) }
 {
-    let side = 1 << log2;
-    let begins = leaf.log2 <= log2 && leaf.x % side == 0 && leaf.y % side == 0;
-    if !begins {
+    if !is_first(leaf, log2) {
         return Ok(());
     }
     write_split(sink, grid, size, leaf.x, leaf.y, log2, leaf.log2 < log2)
+}
+
+// Whether a block of this side begins with the unit: the unit is no larger, and its place is a multiple of the side.
+fn is_first(leaf: Leaf, log2: u32) -> bool
+    requires { log2 ≤ 5 }
+    ensures { result ≡ begins leaf log2 }
+{
+    let side = 1 << log2;
+    leaf.log2 <= log2 && leaf.x % side == 0 && leaf.y % side == 0
 }
