@@ -1,3 +1,3 @@
 pub mod Filled
 pub mod Splits
-pub mod Units
+pub mod UnitFlags

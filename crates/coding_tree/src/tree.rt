@@ -5,7 +5,7 @@ ghost use Rattle.h265_model.specs.Desk.{tile_count};
 ghost use Rattle.h265_model.specs.Tree.{ctu_items, IsLawfulTree, AreAllowed, IsAllowed};
 ghost use Rattle.bin_items.specs.Growth.{IsOpen, Writes};
 ghost use Rattle.pu_code.specs.Cells.{StandsFor, IsUnit};
-ghost use Rattle.coding_tree.specs.Units.{begins, flag_items, flags_items, unit_items};
+ghost use Rattle.coding_tree.specs.UnitFlags.{begins, flag_items, flags_items, unit_items};
 
 use crate::leaf::write_leaf;
 use crate::source::LevelSource;
@@ -71,7 +71,12 @@ fn write_unit<S: BinSink, V: LevelSource>(
 }
 
 // Writes the flags of the blocks that begin with this unit, from that of the largest on.
-fn write_flags<S: BinSink>(sink: &mut S, grid: &Grid, size: Size, leaf: Leaf) -> Result<(), NoMemory>
+fn write_flags<S: BinSink>(
+    sink: &mut S,
+    grid: &Grid,
+    size: Size,
+    leaf: Leaf,
+) -> Result<(), NoMemory>
     requires size { grid.now.size ≡ size }
     requires unit { IsUnit size leaf }
     requires not_ended { IsOpen (S.phase sink.old) }

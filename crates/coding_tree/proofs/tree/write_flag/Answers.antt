@@ -1,6 +1,6 @@
 use Rattle.std.proofs.Common.{sym, ◌∙◌, []}
 use Rattle.std.proofs.lemmas.Bool.{cond-true}
-use Rattle.coding_tree.specs.Units.{flag_items, begins}
+use Rattle.coding_tree.specs.UnitFlags.{flag_items, begins}
 use Rattle.coding_tree.proofs.UnitWalks.{no_flag}
 use Rattle.bin_items.proofs.Growing.{grew_as, grew_same, writes_as}
 use Rattle.coding_tree.proofs.tree.write_flag.Goals as goal

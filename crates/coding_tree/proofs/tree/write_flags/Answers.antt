@@ -1,4 +1,4 @@
-use Rattle.coding_tree.specs.Units.{flags_items}
+use Rattle.coding_tree.specs.UnitFlags.{flags_items}
 use Rattle.bin_items.proofs.Growing.{writes_at_err, front_first, writes_then}
 use Rattle.coding_tree.proofs.tree.write_flags.Goals as goal
 
