@@ -1,16 +1,18 @@
 -- What is kept of neighbours tells what the neighbours do.
-use Rattle.std.proofs.Common.{◌≡◌, refl, ℕ, zero, suc, ◌+◌, ◌%◌, ◌<◌, List, [], ◌∷◌, Bool, true, false, cond, not, ◌&&◌, length, arith, Option, Some, None}
+use Rattle.std.proofs.Common.{◌≡◌, refl, sym, ◌∙◌, ap, subst, ◌*◌, ◌≤◌, ℕ, ◌+◌, ◌/◌, ◌%◌, ◌<◌, List, [], ◌∷◌, Bool, true, false, not, ◌&&◌, length, arith, Option, Some, None}
 use Rattle.std.specs.Prelude.{get_or, nat_lt, ◌==◌, ◌≢◌, if◌then◌else◌}
 use Rattle.std.proofs.lemmas.Bool.{agree_below, agree_below_at, and_parts, not-true, ltb-true, eqb-true, eqb-false}
+use Rattle.std.proofs.lemmas.List.{get_or_default}
+use Rattle.std.proofs.lemmas.Nat.{mul-le}
 use mir.Val.{bool_byte}
-use Rattle.h265_model.specs.declared.leaf.Kind.{Kind}
-use Rattle.h265_model.specs.declared.leaf.Kind.TheVariants.{Skip, Pcm, Intra}
 use Rattle.h265_model.specs.declared.leaf.Leaf.{Leaf}
 use Rattle.h265_model.specs.Bits.{digit}
 use Rattle.h265_model.specs.Modes.{candidates}
-use Rattle.h265_model.specs.Tree.{passes, candidate, candidates_at, skip_context, split_context, is_skipped, mode_of, left_of, above, leaf_at, covers, IsMode, AreModes}
+use Rattle.h265_model.specs.Tree.{passes, candidate, candidates_at, skip_context, split_context, is_skipped, left_of, above}
+use Rattle.pu_code.specs.declared.cell.Cell.{Cell}
 use Rattle.pu_code.specs.Candidates.{AreThree}
-use Rattle.pu_code.specs.Cells.{kept_of, is_smaller, is_copy, mode_kept}
+use Rattle.h265_model.specs.Plain.{coded}
+use Rattle.pu_code.specs.Cells.{Cells, AreCells, blocks, kept_of, is_smaller, is_copy, mode_kept}
 
 pub smaller_is : (log2 : ℕ) (leaf : Option Leaf) → is_smaller log2 (kept_of leaf) ≡ passes (λ l. nat_lt l.log2 log2) leaf
 smaller_is log2 None = refl
@@ -70,7 +72,8 @@ three_of (a ∷ b ∷ c ∷ d ∷ l) h = absurd (omega arith)
 differs : (a b : ℕ) → not (a == b) ≡ true → a ≢ b
 differs a b h = eqb-false a b (not-true (a == b) h)
 
-candidates_are : (a b : ℕ) → a < 35 → b < 35 → AreThree (candidates a b)
+-- of modes that are lawful the candidates are three
+pub candidates_are : (a b : ℕ) → a < 35 → b < 35 → AreThree (candidates a b)
 unfolding candidates_fit
 candidates_are a b ha hb =
     let l : List ℕ = candidates a b in
@@ -100,32 +103,16 @@ candidates_are a b ha hb =
       };
     }
 
-mode_bound : (k : Kind) → IsMode k → mode_of k < 35
-mode_bound Skip h = omega arith
-mode_bound Pcm h = omega arith
-mode_bound (Intra mode) h = h
+-- ---- modes that are kept
 
-candidate_bound : (leaves : List Leaf) (x y : ℕ) → AreModes leaves → candidate (leaf_at leaves x y) < 35
-candidate_bound [] x y h = omega arith
-candidate_bound (leaf ∷ leaves) x y h = go (covers x y leaf) (candidate_bound leaves x y h.1)
-  where
-    go : (b : Bool) → candidate (leaf_at leaves x y) < 35 → candidate (cond b (Some leaf) (leaf_at leaves x y)) < 35
-    go true k = mode_bound leaf.kind h.0
-    go false k = k
+-- a place of the coded picture is one of the cells
+place_within : (a b columns rows : ℕ) → a < columns → b < rows → b * columns + a < columns * rows
+place_within a b columns rows h k = let m : (b + 1) * columns ≤ rows * columns = mul-le (b + 1) columns rows columns (omega arith) (omega arith) in omega arith
 
-left_bound : (leaves : List Leaf) (x y : ℕ) → AreModes leaves → candidate (left_of leaves x y) < 35
-left_bound leaves zero y h = omega arith
-left_bound leaves (suc x) y h = candidate_bound leaves x y h
-
-above_bound : (leaves : List Leaf) (x y : ℕ) → AreModes leaves → candidate (above leaves x y) < 35
-above_bound leaves x zero h = omega arith
-above_bound leaves x (suc y) h = candidate_bound leaves x y h
-
--- of modes that are lawful the candidates are three
-pub candidates_at_are : (leaves : List Leaf) (x y : ℕ) → AreModes leaves → AreThree (candidates_at leaves x y)
-unfolding candidates_at
-candidates_at_are leaves x y h = candidates_are _ _ (left_bound leaves x y h) (go (y % 32 == 0))
-  where
-    go : (b : Bool) → cond b 1 (candidate (above leaves x y)) < 35
-    go true = omega arith
-    go false = above_bound leaves x y h
+pub kept_bound : (g : Cells) (x y columns : ℕ) (cell : Option Cell) → AreCells g → columns ≡ blocks g.size.w → x < coded g.size.w → y < coded g.size.h
+    → cell ≡ get_or g.cells (y / 8 * columns + x / 8) cell → mode_kept cell < 35
+kept_bound g x y columns cell are e across down is =
+    let n : ℕ = y / 8 * blocks g.size.w + x / 8 in
+    let here : cell ≡ get_or g.cells n cell = is ∙ ap (λ c. get_or g.cells (y / 8 * c + x / 8) cell) e in
+    let within : n < length g.cells = rw are.long (place_within (x / 8) (y / 8) (blocks g.size.w) (blocks g.size.h) (omega arith) (omega arith)) in
+    subst (λ c. mode_kept c < 35) (sym (here ∙ get_or_default g.cells n cell None within)) (are.modes (x / 8) (y / 8) (omega arith))
