@@ -16,3 +16,6 @@ pub use pu_code::Grid;
 pub use source::LevelSource;
 pub use split::write_split;
 pub use tree::write_ctu;
+
+#[cfg(test)]
+mod tests;

@@ -1,0 +1,3 @@
+//! Tests of the bins and samples of coding trees.
+
+mod trees;
