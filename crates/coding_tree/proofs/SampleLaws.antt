@@ -1,6 +1,6 @@
 -- Samples that stand as levels, and those of several components one after another.
 use Rattle.std.proofs.Common.{◌≡◌, refl, sym, ◌∙◌, ap, ℕ, zero, suc, ◌+◌, ◌*◌, ◌<◌, ◌≤◌, List, [], ◌∷◌, ◌++◌, length, take, drop, arith, append_assoc}
-use Rattle.std.specs.Prelude.{map, pos, nat_abs, ℤ}
+use Rattle.std.specs.Prelude.{map, pos, nat_abs}
 use Rattle.std.specs.List.{AllByRecursion}
 use Rattle.h265_model.specs.declared.leaf.Leaf.{Leaf}
 use Rattle.h265_model.specs.Tree.{Source}

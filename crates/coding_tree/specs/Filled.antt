@@ -1,5 +1,5 @@
 -- What a source fills a block with.
-use Rattle.std.specs.Prelude.{◌≡◌, ◌<◌, ℕ, List, map, ℤ, pos, negsuc}
+use Rattle.std.specs.Prelude.{◌≡◌, ◌<◌, ℕ, map, ℤ, pos, negsuc}
 use Rattle.std.specs.List.{AllByRecursion}
 use Rattle.h265_model.specs.Residual.{AreLevels}
 use Rattle.h265_model.specs.Tree.{Source}
