@@ -9,6 +9,7 @@ use crate::{Block, Grid, Kind, Leaf, LevelSource, SliceKind, write_leaf, write_s
 use bin_items::{Bin, Item, ItemList, Place};
 use px_plane::Size;
 use std::alloc::Global;
+use std::process::Abort;
 use std::test::Fail;
 
 // A level and a sample for each component, each in a byte, the first component's the lowest; all others are 0. They stand at this column and row for
@@ -145,29 +146,64 @@ fn leaf(x: u32, y: u32, log2: u32, kind: Kind) -> Leaf
     Leaf { x, y, log2, kind }
 }
 
-// The items of a unit, which is then set.
-fn unit_items(
+// A slice of a picture of 64 by 64.
+#[derive(Drop)]
+struct Slice {
     alloc: Global,
     kind: SliceKind,
-    grid: &mut Grid,
-    unit: Leaf,
-    spots: Spots,
-) -> Result<ItemList, Fail>
-    requires unit { IsUnit grid.old.size unit }
-    requires allowed { IsAllowed kind unit.kind }
-    ensures { grid.new.size ≡ grid.old.size }
-{
-    let mut items = ItemList::new(alloc);
-    let mut source = spots;
-    write_leaf(&mut items, kind, grid, unit, &mut source)?;
-    Ok(items)
+    grid: Grid,
 }
 
-fn empty(alloc: Global) -> Result<Grid, Fail>
-    ensures { IfOk result (λ g. g.size ≡ record { w = 64; h = 64 }) }
-{
-    let size = Size::new(64, 64).ok_or("size")?;
-    Ok(Grid::new(alloc, size)?)
+impl Slice {
+    fn new(alloc: Global, kind: SliceKind) -> Result<Slice, Fail>
+        ensures size { IfOk result (λ s. s.grid.size ≡ record { w = 64; h = 64 }) }
+        ensures kind { IfOk result (λ s. s.kind ≡ kind) }
+    {
+        let size = Size::new(64, 64).ok_or("size")?;
+        let grid = Grid::new(alloc, size)?;
+        Ok(Slice { alloc, kind, grid })
+    }
+
+    // Checks the bins and the samples of a unit, which is then set: so many samples, of which these aren't 0.
+    fn check_samples(
+        &mut self,
+        rt: &impl Abort,
+        unit: Leaf,
+        spots: Spots,
+        bins: &[u64],
+        count: usize,
+        samples: &[(usize, u8)],
+    ) -> Result<(), Fail>
+        requires unit { IsUnit self.old.grid.size unit }
+        requires allowed { IsAllowed self.old.kind unit.kind }
+        ensures size { self.new.grid.size ≡ self.old.grid.size }
+        ensures kind { self.new.kind ≡ self.old.kind }
+    {
+        let mut items = ItemList::new(self.alloc);
+        let mut source = spots;
+        write_leaf(&mut items, self.kind, &mut self.grid, unit, &mut source)?;
+        assert!(rt;
+            are_items(items.as_slice(), bins, count, samples),
+            "{unit:?}"
+        );
+        Ok(())
+    }
+
+    // The same of a unit with no samples.
+    fn check_bins(
+        &mut self,
+        rt: &impl Abort,
+        unit: Leaf,
+        spots: Spots,
+        bins: &[u64],
+    ) -> Result<(), Fail>
+        requires unit { IsUnit self.old.grid.size unit }
+        requires allowed { IsAllowed self.old.kind unit.kind }
+        ensures size { self.new.grid.size ≡ self.old.grid.size }
+        ensures kind { self.new.kind ≡ self.old.kind }
+    {
+        self.check_samples(rt, unit, spots, bins, 0, &[])
+    }
 }
 
 const P_INTRA_8: [u64; 44] = [
@@ -234,97 +270,71 @@ const I_INTRA_32: [u64; 105] = [
 
 #[test]
 fn units_of_p_slices(rt: HostRuntime) -> Result<(), Fail> {
-    let alloc = rt.alloc();
-    let mut grid = empty(alloc)?;
-    let unit = leaf(0, 0, 4, Kind::Skip);
-    let items = unit_items(alloc, SliceKind::P, &mut grid, unit, NONE)?;
-    assert!(rt; are_items(items.as_slice(), &[1, 9], 0, &[]));
-    let unit = leaf(16, 0, 3, Kind::Intra(26));
-    let items = unit_items(alloc, SliceKind::P, &mut grid, unit, LUMA)?;
-    assert!(rt; are_items(items.as_slice(), &P_INTRA_8, 0, &[]));
-    let unit = leaf(24, 0, 3, Kind::Pcm);
-    let items = unit_items(alloc, SliceKind::P, &mut grid, unit, LUMA)?;
-    assert!(rt;
-        are_items(
-            items.as_slice(),
-            &[1, 8, 15, 17, 303],
-            192,
-            &[(35, 200), (124, 7), (149, 255)]
-        )
-    );
-    let unit = leaf(16, 8, 3, Kind::Intra(10));
-    let items = unit_items(alloc, SliceKind::P, &mut grid, unit, ALL)?;
-    assert!(rt; are_items(items.as_slice(), &P_INTRA_8_AGAIN, 0, &[]));
-    let unit = leaf(24, 8, 3, Kind::Skip);
-    let items = unit_items(alloc, SliceKind::P, &mut grid, unit, NONE)?;
-    assert!(rt; are_items(items.as_slice(), &[1, 9], 0, &[]));
-    let unit = leaf(0, 16, 4, Kind::Intra(34));
-    let items = unit_items(alloc, SliceKind::P, &mut grid, unit, CB)?;
-    assert!(rt; are_items(items.as_slice(), &P_INTRA_16, 0, &[]));
-    let unit = leaf(16, 16, 4, Kind::Pcm);
-    let items = unit_items(alloc, SliceKind::P, &mut grid, unit, ALL)?;
-    assert!(rt;
-        are_items(
-            items.as_slice(),
-            &[1, 8, 15, 303],
-            768,
-            &[(306, 1), (611, 2)]
-        )
-    );
-    let unit = leaf(32, 0, 5, Kind::Intra(0));
-    let items = unit_items(alloc, SliceKind::P, &mut grid, unit, LUMA_CR)?;
-    assert!(rt; are_items(items.as_slice(), &P_INTRA_32, 0, &[]));
-    let unit = leaf(0, 32, 5, Kind::Pcm);
-    let items = unit_items(alloc, SliceKind::P, &mut grid, unit, NONE)?;
-    assert!(rt; are_items(items.as_slice(), &[1, 8, 15, 303], 3072, &[(231, 9)]));
-    let unit = leaf(32, 32, 5, Kind::Skip);
-    let items = unit_items(alloc, SliceKind::P, &mut grid, unit, ALL)?;
-    assert!(rt; are_items(items.as_slice(), &[1, 9], 0, &[]));
+    let mut slice = Slice::new(rt.alloc(), SliceKind::P)?;
+    slice.check_bins(&rt, leaf(0, 0, 4, Kind::Skip), NONE, &[1, 9])?;
+    slice.check_bins(&rt, leaf(16, 0, 3, Kind::Intra(26)), LUMA, &P_INTRA_8)?;
+    slice.check_samples(
+        &rt,
+        leaf(24, 0, 3, Kind::Pcm),
+        LUMA,
+        &[1, 8, 15, 17, 303],
+        192,
+        &[(35, 200), (124, 7), (149, 255)],
+    )?;
+    slice.check_bins(&rt, leaf(16, 8, 3, Kind::Intra(10)), ALL, &P_INTRA_8_AGAIN)?;
+    slice.check_bins(&rt, leaf(24, 8, 3, Kind::Skip), NONE, &[1, 9])?;
+    slice.check_bins(&rt, leaf(0, 16, 4, Kind::Intra(34)), CB, &P_INTRA_16)?;
+    slice.check_samples(
+        &rt,
+        leaf(16, 16, 4, Kind::Pcm),
+        ALL,
+        &[1, 8, 15, 303],
+        768,
+        &[(306, 1), (611, 2)],
+    )?;
+    slice.check_bins(&rt, leaf(32, 0, 5, Kind::Intra(0)), LUMA_CR, &P_INTRA_32)?;
+    slice.check_samples(
+        &rt,
+        leaf(0, 32, 5, Kind::Pcm),
+        NONE,
+        &[1, 8, 15, 303],
+        3072,
+        &[(231, 9)],
+    )?;
+    slice.check_bins(&rt, leaf(32, 32, 5, Kind::Skip), ALL, &[1, 9])?;
     Ok(())
 }
 
 #[test]
 fn units_of_i_slices(rt: HostRuntime) -> Result<(), Fail> {
-    let alloc = rt.alloc();
-    let mut grid = empty(alloc)?;
-    let unit = leaf(0, 0, 3, Kind::Intra(1));
-    let items = unit_items(alloc, SliceKind::I, &mut grid, unit, NONE)?;
-    assert!(rt;
-        are_items(
-            items.as_slice(),
-            &[1, 17, 302, 19, 301, 300, 20, 24, 24, 22],
-            0,
-            &[]
-        )
-    );
-    let unit = leaf(8, 0, 3, Kind::Pcm);
-    let items = unit_items(alloc, SliceKind::I, &mut grid, unit, ALL)?;
-    assert!(rt; are_items(items.as_slice(), &[1, 17, 303], 192, &[(90, 1), (179, 2)]));
-    let unit = leaf(0, 8, 3, Kind::Intra(8));
-    let items = unit_items(alloc, SliceKind::I, &mut grid, unit, ALL)?;
-    assert!(rt; are_items(items.as_slice(), &I_INTRA_8, 0, &[]));
-    let unit = leaf(8, 8, 3, Kind::Intra(26));
-    let items = unit_items(alloc, SliceKind::I, &mut grid, unit, LUMA)?;
-    assert!(rt; are_items(items.as_slice(), &I_INTRA_8_AGAIN, 0, &[]));
-    let unit = leaf(16, 0, 4, Kind::Intra(20));
-    let items = unit_items(alloc, SliceKind::I, &mut grid, unit, LUMA_CR)?;
-    assert!(rt; are_items(items.as_slice(), &I_INTRA_16, 0, &[]));
-    let unit = leaf(0, 16, 4, Kind::Pcm);
-    let items = unit_items(alloc, SliceKind::I, &mut grid, unit, CB)?;
-    assert!(rt; are_items(items.as_slice(), &[1, 303], 768, &[]));
-    let unit = leaf(32, 0, 5, Kind::Intra(18));
-    let items = unit_items(alloc, SliceKind::I, &mut grid, unit, ALL)?;
-    assert!(rt; are_items(items.as_slice(), &I_INTRA_32, 0, &[]));
-    let unit = leaf(0, 32, 5, Kind::Pcm);
-    let items = unit_items(alloc, SliceKind::I, &mut grid, unit, LUMA)?;
-    assert!(rt;
-        are_items(
-            items.as_slice(),
-            &[1, 303],
-            3072,
-            &[(131, 200), (1252, 7), (2117, 255)]
-        )
-    );
+    let mut slice = Slice::new(rt.alloc(), SliceKind::I)?;
+    slice.check_bins(
+        &rt,
+        leaf(0, 0, 3, Kind::Intra(1)),
+        NONE,
+        &[1, 17, 302, 19, 301, 300, 20, 24, 24, 22],
+    )?;
+    slice.check_samples(
+        &rt,
+        leaf(8, 0, 3, Kind::Pcm),
+        ALL,
+        &[1, 17, 303],
+        192,
+        &[(90, 1), (179, 2)],
+    )?;
+    slice.check_bins(&rt, leaf(0, 8, 3, Kind::Intra(8)), ALL, &I_INTRA_8)?;
+    slice.check_bins(&rt, leaf(8, 8, 3, Kind::Intra(26)), LUMA, &I_INTRA_8_AGAIN)?;
+    slice.check_bins(&rt, leaf(16, 0, 4, Kind::Intra(20)), LUMA_CR, &I_INTRA_16)?;
+    slice.check_samples(&rt, leaf(0, 16, 4, Kind::Pcm), CB, &[1, 303], 768, &[])?;
+    slice.check_bins(&rt, leaf(32, 0, 5, Kind::Intra(18)), ALL, &I_INTRA_32)?;
+    slice.check_samples(
+        &rt,
+        leaf(0, 32, 5, Kind::Pcm),
+        LUMA,
+        &[1, 303],
+        3072,
+        &[(131, 200), (1252, 7), (2117, 255)],
+    )?;
     Ok(())
 }
 
@@ -345,15 +355,17 @@ fn filled(alloc: Global) -> Result<Grid, Fail>
     Ok(grid)
 }
 
-// What is written of a split, as a number.
-fn flag(
+// That these are the bins of a split, or of none.
+fn check_flag(
+    rt: &impl Abort,
     alloc: Global,
     grid: &Grid,
     x: u32,
     y: u32,
     log2: u32,
     split: bool,
-) -> Result<Option<u64>, Fail>
+    bins: &[u64],
+) -> Result<(), Fail>
     requires size { grid.now.size ≡ record { w = 70; h = 60 } }
     requires across { x < 72 }
     requires down { y < 64 }
@@ -364,30 +376,27 @@ fn flag(
     let size = Size::new(70, 60).ok_or("size")?;
     let mut items = ItemList::new(alloc);
     write_split(&mut items, grid, size, x, y, log2, split)?;
-    match items.as_slice() {
-        [] => Ok(None),
-        [item] => Ok(Some(number_of(*item))),
-        _ => Err("more than one flag".into()),
-    }
+    assert!(rt; are_items(items.as_slice(), bins, 0, &[]), "{x} {y} {log2}");
+    Ok(())
 }
 
 #[test]
 fn split_flags(rt: HostRuntime) -> Result<(), Fail> {
     let alloc = rt.alloc();
     let grid = filled(alloc)?;
-    assert_eq!(rt; flag(alloc, &grid, 0, 0, 5, true)?, Some(3));
-    assert_eq!(rt; flag(alloc, &grid, 0, 0, 4, false)?, Some(2));
-    assert_eq!(rt; flag(alloc, &grid, 16, 0, 4, true)?, Some(3));
-    assert_eq!(rt; flag(alloc, &grid, 16, 0, 3, false)?, None);
-    assert_eq!(rt; flag(alloc, &grid, 16, 16, 4, false)?, Some(4));
-    assert_eq!(rt; flag(alloc, &grid, 32, 0, 5, false)?, Some(4));
-    assert_eq!(rt; flag(alloc, &grid, 32, 0, 4, true)?, Some(5));
-    assert_eq!(rt; flag(alloc, &grid, 32, 32, 5, true)?, Some(3));
-    assert_eq!(rt; flag(alloc, &grid, 0, 32, 5, true)?, Some(5));
-    assert_eq!(rt; flag(alloc, &grid, 16, 32, 4, false)?, Some(2));
-    assert_eq!(rt; flag(alloc, &grid, 64, 0, 5, true)?, None);
-    assert_eq!(rt; flag(alloc, &grid, 64, 32, 4, true)?, None);
-    assert_eq!(rt; flag(alloc, &grid, 64, 56, 3, false)?, None);
-    assert_eq!(rt; flag(alloc, &grid, 56, 48, 4, true)?, Some(3));
+    check_flag(&rt, alloc, &grid, 0, 0, 5, true, &[3])?;
+    check_flag(&rt, alloc, &grid, 0, 0, 4, false, &[2])?;
+    check_flag(&rt, alloc, &grid, 16, 0, 4, true, &[3])?;
+    check_flag(&rt, alloc, &grid, 16, 0, 3, false, &[])?;
+    check_flag(&rt, alloc, &grid, 16, 16, 4, false, &[4])?;
+    check_flag(&rt, alloc, &grid, 32, 0, 5, false, &[4])?;
+    check_flag(&rt, alloc, &grid, 32, 0, 4, true, &[5])?;
+    check_flag(&rt, alloc, &grid, 32, 32, 5, true, &[3])?;
+    check_flag(&rt, alloc, &grid, 0, 32, 5, true, &[5])?;
+    check_flag(&rt, alloc, &grid, 16, 32, 4, false, &[2])?;
+    check_flag(&rt, alloc, &grid, 64, 0, 5, true, &[])?;
+    check_flag(&rt, alloc, &grid, 64, 32, 4, true, &[])?;
+    check_flag(&rt, alloc, &grid, 64, 56, 3, false, &[])?;
+    check_flag(&rt, alloc, &grid, 56, 48, 4, true, &[3])?;
     Ok(())
 }
