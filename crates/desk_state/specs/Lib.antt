@@ -1,0 +1,4 @@
+pub mod Accepting
+pub mod Replays
+pub mod Standing
+pub mod Inside
