@@ -57,7 +57,7 @@ painted_after lines line taken old new jobs cuts paints most size shows flags is
 -- ---- a cut
 
 -- a cut paints nothing
-cut_raster : (size : Size) (lines : List Line) → raster size (lines ++ Cut ∷ []) ≡ raster size lines
+pub cut_raster : (size : Size) (lines : List Line) → raster size (lines ++ Cut ∷ []) ≡ raster size lines
 unfolding raster colour
 cut_raster size lines = λ i. place_values size.w size.h (λ x y. fold_push (repainted x y) black lines Cut i)
 

@@ -6,3 +6,5 @@ pub mod Totals
 pub mod Desks
 pub mod Lookups
 pub mod Accepted
+pub mod Untouched
+pub mod Leading
