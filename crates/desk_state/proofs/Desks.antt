@@ -1,5 +1,5 @@
 -- A desk state as its history grows.
-use Rattle.std.proofs.Common.{◌≡◌, ℕ, ◌+◌, ◌-◌, ◌<◌, ◌≤◌, false, List, [], ◌∷◌, ◌++◌, length, map, refl, sym, ap, subst, ◌∙◌, arith}
+use Rattle.std.proofs.Common.{◌≡◌, ℕ, ◌+◌, ◌-◌, ◌<◌, ◌≤◌, List, [], ◌∷◌, ◌++◌, length, map, refl, sym, ap, subst, ◌∙◌, arith}
 use Rattle.std.specs.Prelude.{count_by}
 use Rattle.std.specs.List.{range_with_len}
 use Rattle.std.proofs.lemmas.List.FromFn.{length-map-range_with_len}
@@ -11,10 +11,10 @@ use Rattle.h265_model.specs.Script.{is_cut}
 use Rattle.h265_model.specs.Setting.{Setting}
 use Rattle.h265_model.specs.Raster.{raster, accepted_line, lines_of}
 use Rattle.h265_model.specs.Histories.{IsLawful, cuts, take_numbers, takes, indexes_of, script_length}
-use Rattle.h265_model.specs.Desk.{IsReplay, job_of}
+use Rattle.h265_model.specs.Desk.{job_of}
 use Rattle.px_plane.specs.Planes.{Shows}
-use Rattle.desk_surface.specs.Damage.{Painted, IsFlagged}
-use Rattle.desk_state.specs.Standing.{StandsFor, most_entries}
+use Rattle.desk_surface.specs.Damage.{Painted}
+use Rattle.desk_state.specs.Standing.{StandsFor}
 use Rattle.desk_state.specs.Replays.{IsAfter, IsOneMore, job_on}
 use Rattle.desk_state.proofs.Entries.{lines_line, lines_take, lawful_none, lawful_line, lawful_take, takes_line, takes_take}
 use Rattle.desk_state.proofs.Jobs.{first_job, more_cuts}

@@ -1,6 +1,6 @@
 -- Histories, when one entry comes.
-use Rattle.std.proofs.Common.{◌≡◌, ◌⊎◌, ℕ, zero, suc, ◌+◌, ◌<◌, ◌≤◌, Bool, true, false, if◌then◌else◌, List, [], ◌∷◌, ◌++◌, length, refl, sym, ap, subst, ◌∙◌, arith, inl, inr, eq-eqb, length-append}
-use Rattle.std.specs.Prelude.{count_by, ◌==◌, not}
+use Rattle.std.proofs.Common.{◌≡◌, ◌⊎◌, ℕ, suc, ◌+◌, ◌<◌, ◌≤◌, Bool, true, false, if◌then◌else◌, List, [], ◌∷◌, ◌++◌, length, refl, sym, ap, subst, ◌∙◌, arith, inl, inr, eq-eqb, length-append}
+use Rattle.std.specs.Prelude.{◌==◌}
 use Rattle.std.specs.List.{range_with_len}
 use Rattle.std.proofs.lemmas.Bool.Decides.{nat_tests}
 use Rattle.std.proofs.lemmas.List.{append-nil}
@@ -9,9 +9,8 @@ use Rattle.desk_surface.proofs.RowsMore.{range-more}
 use Rattle.h265_model.specs.declared.entry.Entry.{Entry}
 use Rattle.h265_model.specs.declared.entry.Entry.TheVariants.{Line, Take}
 use Rattle.h265_model.specs.declared.line.Line as line
-use Rattle.h265_model.specs.Script.{is_cut}
 use Rattle.h265_model.specs.Raster.{accepted_line, lines_of}
-use Rattle.h265_model.specs.Histories.{IsLawful, TakesFollowCuts, BeginsMerge, indexes_of, take_numbers, takes, cuts, script_length}
+use Rattle.h265_model.specs.Histories.{IsLawful, indexes_of, take_numbers, takes, cuts, script_length}
 
 abbrev Scripts : Type 0
 Scripts = List (List line.Line)
@@ -62,6 +61,19 @@ unfolding take_numbers
 numbers_take [] number = refl
 numbers_take (Line c i ∷ h) number = numbers_take h number
 numbers_take (Take n ∷ h) number = ap (λ (l : List ℕ). n ∷ l) (numbers_take h number)
+
+-- how many lines of a client there are with one entry more
+pub count_own : (h : List Entry) (client index : ℕ) → length (indexes_of (h ++ Line client index ∷ []) client) ≡ length (indexes_of h client) + 1
+count_own h client index =
+    ap length (indexes_more h (Line client index ∷ []) client ∙ ap (λ (l : List ℕ). indexes_of h client ++ l) (indexes_one client index client ∙ ap (λ b. if b then index ∷ [] else []) (eq-eqb client client refl)))
+    ∙ length-append (indexes_of h client) (index ∷ [])
+
+pub count_other : (h : List Entry) (client index other : ℕ) → (client == other) ≡ false → length (indexes_of (h ++ Line client index ∷ []) other) ≡ length (indexes_of h other)
+count_other h client index other off =
+    ap length (indexes_more h (Line client index ∷ []) other ∙ ap (λ (l : List ℕ). indexes_of h other ++ l) (indexes_one client index other ∙ ap (λ b. if b then index ∷ [] else []) off) ∙ append-nil (indexes_of h other))
+
+pub count_take : (h : List Entry) (number other : ℕ) → length (indexes_of (h ++ Take number ∷ []) other) ≡ length (indexes_of h other)
+count_take h number other = ap length (indexes_more h (Take number ∷ []) other ∙ ap (λ (l : List ℕ). indexes_of h other ++ l) (indexes_none number other) ∙ append-nil (indexes_of h other))
 
 -- ---- one entry at the end
 

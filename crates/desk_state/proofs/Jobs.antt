@@ -1,12 +1,12 @@
 -- The jobs that wait, when one line comes, and when the first of them leaves.
-use Rattle.std.proofs.Common.{◌≡◌, ℕ, zero, suc, ◌+◌, ◌-◌, ◌<◌, ◌≤◌, Bool, true, false, if◌then◌else◌, List, [], ◌∷◌, ◌++◌, length, map, get_or, refl, sym, ap, subst, ◌∙◌, arith}
-use Rattle.std.specs.Prelude.{count_by, option_to_list, Option, Some, None}
+use Rattle.std.proofs.Common.{◌≡◌, ℕ, zero, suc, ◌+◌, ◌-◌, ◌<◌, ◌≤◌, false, if◌then◌else◌, List, [], ◌∷◌, ◌++◌, length, map, get_or, refl, sym, ap, subst, ◌∙◌, arith}
+use Rattle.std.specs.Prelude.{count_by}
 use Rattle.std.specs.List.{range_with_len}
 use Rattle.std.proofs.lemmas.List.Sums.{sum_by_push, fold_push}
 use Rattle.std.proofs.lemmas.List.FromFn.{map-range_with_len_more}
 use Rattle.h265_model.specs.declared.line.Job.{Job}
 use Rattle.h265_model.specs.declared.line.Line.{Line}
-use Rattle.h265_model.specs.declared.line.Line.TheVariants.{Fill, Blit, Cut}
+use Rattle.h265_model.specs.declared.line.Line.TheVariants.{Cut}
 use Rattle.h265_model.specs.Plain.{Size, place_values}
 use Rattle.h265_model.specs.Lines.{black}
 use Rattle.h265_model.specs.Script.{is_cut}

@@ -1,28 +1,25 @@
 -- From the picture of one cut to that of the next.
-use Rattle.std.proofs.Common.{◌≡◌, ℕ, zero, suc, ◌+◌, ◌*◌, ◌<◌, ◌≤◌, ◌&&◌, Bool, true, false, cond, if◌then◌else◌, List, [], ◌∷◌, ◌++◌, length, get_or, nat_lt, append_assoc, length-append, refl, sym, ap, subst, ◌∙◌, arith}
-use Rattle.std.specs.Prelude.{count_by, flat_map, slice_index_or}
+use Rattle.std.proofs.Common.{◌≡◌, ℕ, zero, suc, ◌+◌, ◌*◌, ◌<◌, ◌&&◌, Bool, true, false, cond, if◌then◌else◌, List, [], ◌∷◌, ◌++◌, length, get_or, nat_lt, append_assoc, length-append, refl, sym, ap, subst, ◌∙◌, arith}
+use Rattle.std.specs.Prelude.{count_by, flat_map}
 use Rattle.std.specs.List.{Contains, slice_split, onto_first}
-use Rattle.std.proofs.lemmas.Bool.{ltb-true}
 use Rattle.std.proofs.lemmas.Bool.Decides.{nat_tests}
 use Rattle.std.proofs.lemmas.List.{append-nil}
 use Rattle.std.proofs.lemmas.List.Sums.{sum_by-cons}
-use Rattle.std.proofs.lemmas.List.Splits.{length-slice_split}
 use Rattle.h265_model.specs.declared.entry.Entry.{Entry}
-use Rattle.h265_model.specs.declared.line.Job.{Job}
 use Rattle.h265_model.specs.declared.line.Line.{Line}
 use Rattle.h265_model.specs.declared.line.Line.TheVariants.{Fill, Blit, Cut}
-use Rattle.h265_model.specs.Plain.{Size, Picture, coded, below, place_values, ctu_x, ctu_y}
+use Rattle.h265_model.specs.Plain.{Size, Picture, below, place_values, ctu_x, ctu_y}
 use Rattle.h265_model.specs.Script.{is_cut}
 use Rattle.h265_model.specs.Setting.{Setting}
 use Rattle.h265_model.specs.Raster.{Raster, raster, rasters_after, lines_of, component, colour, coded_picture}
 use Rattle.h265_model.specs.Histories.{cuts}
-use Rattle.h265_model.specs.Desk.{tile_count, is_touched, touched_by, touched, tile_samples, job_of, job_for}
+use Rattle.h265_model.specs.Desk.{touched_by, touched, tile_samples, job_of}
 use Rattle.h265_model.proofs.Squares.{length_places}
 use Rattle.px_plane.specs.Planes.{Planes, Shows, picture_of}
-use Rattle.px_plane.specs.Tiles.{IsJobOf, DiffersOnlyIn, tile_of}
+use Rattle.px_plane.specs.Tiles.{DiffersOnlyIn, tile_of}
 use Rattle.px_plane.proofs.Shown.{coded_at, shown_is_coded}
-use Rattle.desk_state.specs.Laws.{EachJobLeadsOn, LeadsOn, shown_at, shown_before}
-use Rattle.desk_state.specs.Replays.{part_of, raster_at}
+use Rattle.desk_state.specs.Laws.{EachJobLeadsOn, shown_at, shown_before}
+use Rattle.desk_state.specs.Replays.{part_of}
 use Rattle.desk_state.proofs.Jobs.{cut_raster}
 use Rattle.desk_state.proofs.Untouched.{tile_within, colour_kept, not_listed, touched_within}
 

@@ -1,7 +1,7 @@
 -- Lines leave the places of the tiles that they don't paint in.
-use Rattle.std.proofs.Common.{◌≡◌, ℕ, zero, suc, ◌+◌, ◌-◌, ◌*◌, ◌/◌, ◌%◌, ◌<◌, ◌≤◌, ◌&&◌, ◌||◌, Bool, true, false, if◌then◌else◌, List, [], ◌∷◌, ◌++◌, length, nat_lt, refl, sym, ap, subst, ◌∙◌, arith, inl, inr}
+use Rattle.std.proofs.Common.{◌≡◌, ℕ, zero, suc, ◌+◌, ◌-◌, ◌*◌, ◌/◌, ◌<◌, ◌≤◌, ◌||◌, Bool, true, false, if◌then◌else◌, List, [], ◌∷◌, ◌++◌, length, refl, sym, ap, subst, ◌∙◌, arith, inl, inr}
 use Rattle.std.specs.Prelude.{filter, fold, slice_index_or}
-use Rattle.std.specs.List.{AllByRecursion, Contains, list_any, range_with_len}
+use Rattle.std.specs.List.{AllByRecursion, Contains, range_with_len}
 use Rattle.std.proofs.lemmas.Bool.{cases_eq}
 use Rattle.std.proofs.lemmas.Bool.Decides.{nat_tests}
 use Rattle.std.proofs.lemmas.Nat.{mod-mul-add, div-mul-add, mul-le}
@@ -11,7 +11,7 @@ use Rattle.h265_model.specs.declared.line.Line.TheVariants.{Fill, Blit, Cut}
 use Rattle.h265_model.specs.declared.line.Rect.{Rect}
 use Rattle.h265_model.specs.declared.line.Rgb.{Rgb}
 use Rattle.h265_model.specs.Lines.{black}
-use Rattle.h265_model.specs.Plain.{Size, ctus, ctu_x, ctu_y, below}
+use Rattle.h265_model.specs.Plain.{Size, ctus, ctu_x, ctu_y}
 use Rattle.h265_model.specs.Raster.{paints, repainted, colour}
 use Rattle.h265_model.specs.Desk.{tile_count, meets_tile, touches, is_touched, touched_by}
 use Rattle.px_plane.specs.Tiles.{tile_of}

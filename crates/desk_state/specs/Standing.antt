@@ -8,7 +8,7 @@ use Rattle.h265_model.specs.Script.{is_cut}
 use Rattle.h265_model.specs.Setting.{Setting}
 use Rattle.h265_model.specs.Turn.{State}
 use Rattle.h265_model.specs.Raster.{Raster, accepted_line}
-use Rattle.h265_model.specs.Histories.{IsLawful, indexes_of, script_length, takes}
+use Rattle.h265_model.specs.Histories.{indexes_of, script_length, takes}
 use Rattle.h265_model.specs.Desk.{IsReplay, job_of}
 use Rattle.px_plane.specs.Planes.{Shows}
 use Rattle.desk_surface.specs.Damage.{Painted}

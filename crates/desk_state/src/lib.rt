@@ -10,3 +10,6 @@ pub use h265_model::{Entry, Told};
 pub use laws::each_job_leads_to_the_next_picture;
 pub use paint_script::Scripts;
 pub use state::DeskState;
+
+#[cfg(test)]
+mod tests;

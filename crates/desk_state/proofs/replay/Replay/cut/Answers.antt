@@ -1,6 +1,6 @@
 use Rattle.desk_state.proofs.Jobs.{cut_after}
 use Rattle.desk_state.proofs.replay.Replay.cut.Goals as goal
-use Rattle.std.proofs.Common.{◌≡◌, ◌∷◌, ◌++◌, [], ap, ◌∙◌}
+use Rattle.std.proofs.Common.{◌∷◌, ◌++◌, [], ap, ◌∙◌}
 
 pub returns-clause-accepted : goal.returns-clause-accepted
 returns-clause-accepted c = λ lines taken most is.

@@ -1,4 +1,4 @@
-use Rattle.std.proofs.Common.{◌≡◌, sym, arith}
+use Rattle.std.proofs.Common.{arith}
 use Rattle.desk_state.proofs.Accepted.{desk_at_first}
 use Rattle.desk_state.proofs.state.DeskState.new.Goals as goal
 

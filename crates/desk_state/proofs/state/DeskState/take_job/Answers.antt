@@ -1,4 +1,4 @@
-use Rattle.std.proofs.Common.{◌≡◌, ◌<◌, ◌-◌, ◌^◌, ◌∷◌, [], length, refl, sym, subst, ap, ◌∙◌, arith}
+use Rattle.std.proofs.Common.{◌<◌, ◌-◌, ◌^◌, length, refl, sym, subst, ap}
 use Rattle.h265_model.specs.declared.entry.Entry.TheVariants as entry
 use Rattle.h265_model.specs.Turn.{State}
 use Rattle.h265_model.specs.Histories.{IsLawful}
