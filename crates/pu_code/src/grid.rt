@@ -4,7 +4,7 @@ ghost use Rattle.h265_model.specs.declared.leaf.Leaf.{Leaf as TheLeaf};
 ghost use Rattle.h265_model.specs.Plain.{coded};
 ghost use Rattle.h265_model.specs.Tree as tree;
 ghost use Rattle.h265_model.specs.Tree.{AreModes};
-ghost use Rattle.pu_code.specs.Candidates.{AreThree};
+ghost use Rattle.h265_model.specs.Modes.{AreThree};
 ghost use Rattle.pu_code.specs.Cells.{blocks, cell_at, kept_of, StandsFor, IsUnit};
 
 use crate::cell::{Cell, DC, candidate, fill_square, is_copy, is_smaller};

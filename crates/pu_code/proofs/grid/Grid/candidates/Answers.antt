@@ -1,8 +1,9 @@
 use Rattle.std.proofs.Common.{ap, sym, ◌∙◌, subst}
 use Rattle.h265_model.specs.Tree as tree
-use Rattle.pu_code.specs.Candidates.{AreThree}
+use Rattle.h265_model.specs.Modes.{AreThree}
 use Rattle.pu_code.specs.Cells.{mode_kept}
-use Rattle.pu_code.proofs.Neighbours.{mode_is, candidates_are_at, candidates_at_are}
+use Rattle.pu_code.proofs.Neighbours.{mode_is, candidates_are_at}
+use Rattle.h265_model.proofs.Candidates.{candidates_at_are}
 use Rattle.pu_code.proofs.grid.Grid.candidates.Goals as goal
 
 pub returns-clause-value : goal.returns-clause-value
