@@ -1,12 +1,15 @@
 //! Coding trees.
-ghost use Rattle.std.specs.Prelude.{◌≡◌, ◌<◌, ◌++◌, List, OnOk};
+ghost use Rattle.std.specs.Prelude.{◌≡◌, ◌<◌, ◌≤◌, ◌++◌, ◌∷◌, [], List, OnOk};
 ghost use Rattle.h265_model.specs.declared.leaf.Leaf.{Leaf as TheLeaf};
 ghost use Rattle.h265_model.specs.Desk.{tile_count};
-ghost use Rattle.h265_model.specs.Tree.{ctu_items, IsLawfulTree, AreAllowed};
+ghost use Rattle.h265_model.specs.Tree.{ctu_items, IsLawfulTree, AreAllowed, IsAllowed};
 ghost use Rattle.bin_items.specs.Growth.{IsOpen, Writes};
-ghost use Rattle.pu_code.specs.Cells.{StandsFor};
+ghost use Rattle.pu_code.specs.Cells.{StandsFor, IsUnit};
+ghost use Rattle.coding_tree.specs.Units.{begins, flag_items, flags_items, unit_items};
 
+use crate::leaf::write_leaf;
 use crate::source::LevelSource;
+use crate::split::write_split;
 use bin_items::{BinSink, Leaf, NoMemory};
 use h265_model::SliceKind;
 use pu_code::Grid;
@@ -37,5 +40,75 @@ pub fn write_ctu<S: BinSink, V: LevelSource>(
     ensures size { grid.new.size ≡ grid.old.size }
     ensures source { V.source source.new ≡ V.source source.old }
 {
+    for leaf in leaves {
+        write_unit(sink, kind, grid, size, *leaf, source)?;
+    }
     Ok(())
+}
+
+// Writes a coding unit with the flags of the blocks that begin with it, and then sets it in the grid.
+fn write_unit<S: BinSink, V: LevelSource>(
+    sink: &mut S,
+    kind: SliceKind,
+    grid: &mut Grid,
+    size: Size,
+    leaf: Leaf,
+    source: &mut V,
+) -> Result<(), NoMemory>
+    requires size { grid.old.size ≡ size }
+    requires unit { IsUnit size leaf }
+    requires allowed { IsAllowed kind leaf.kind }
+    requires not_ended { IsOpen (S.phase sink.old) }
+    ensures taken { (before : List TheLeaf) → StandsFor grid.old before →
+        Writes (unit_items kind size (V.source source.old) before leaf) (S.stands_for sink.old) (S.stands_for sink.new) result }
+    ensures not_ended { OnOk result (IsOpen (S.phase sink.new)) }
+    ensures set { OnOk result ((before : List TheLeaf) → StandsFor grid.old before → StandsFor grid.new (before ++ leaf ∷ [])) }
+    ensures size { grid.new.size ≡ grid.old.size }
+    ensures source { V.source source.new ≡ V.source source.old }
+{
+    write_flags(sink, grid, size, leaf)?;
+    write_leaf(sink, kind, grid, leaf, source)
+}
+
+// Writes the flags of the blocks that begin with this unit, from that of the largest on.
+fn write_flags<S: BinSink>(sink: &mut S, grid: &Grid, size: Size, leaf: Leaf) -> Result<(), NoMemory>
+    requires size { grid.now.size ≡ size }
+    requires unit { IsUnit size leaf }
+    requires not_ended { IsOpen (S.phase sink.old) }
+    ensures taken { (before : List TheLeaf) → StandsFor grid.now before → Writes (flags_items size before leaf) (S.stands_for sink.old) (S.stands_for sink.new) result }
+    ensures not_ended { IsOpen (S.phase sink.new) }
+{
+    write_flag(sink, grid, size, leaf, 5)?;
+    write_flag(sink, grid, size, leaf, 4)
+}
+
+// Writes the flag of the block of this side, where one begins with this unit.
+fn write_flag<S: BinSink>(
+    sink: &mut S,
+    grid: &Grid,
+    size: Size,
+    leaf: Leaf,
+    log2: u32,
+) -> Result<(), NoMemory>
+    requires size { grid.now.size ≡ size }
+    requires unit { IsUnit size leaf }
+    requires low { 4 ≤ log2 }
+    requires high { log2 ≤ 5 }
+    requires not_ended { IsOpen (S.phase sink.old) }
+    ensures taken { (before : List TheLeaf) → StandsFor grid.now before → Writes (flag_items size before leaf log2) (S.stands_for sink.old) (S.stands_for sink.new) result }
+    ensures not_ended { IsOpen (S.phase sink.new) }
+{
+    if !is_first(leaf, log2) {
+        return Ok(());
+    }
+    write_split(sink, grid, size, leaf.x, leaf.y, log2, leaf.log2 < log2)
+}
+
+// Whether a block of this side begins with the unit: the unit is no larger, and its place is a multiple of the side.
+fn is_first(leaf: Leaf, log2: u32) -> bool
+    requires { log2 ≤ 5 }
+    ensures { result ≡ begins leaf log2 }
+{
+    let side = 1 << log2;
+    leaf.log2 <= log2 && leaf.x % side == 0 && leaf.y % side == 0
 }
