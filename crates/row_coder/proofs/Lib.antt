@@ -1,0 +1,5 @@
+pub mod Differences
+pub mod Linked
+pub mod RowSteps
+pub mod Sourced
+pub mod Walks

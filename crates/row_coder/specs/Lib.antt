@@ -1,2 +1,3 @@
-pub mod Sources
+pub mod Laws
 pub mod Rows
+pub mod Sources

@@ -1,5 +1,5 @@
 -- A row of coding tree units that is coded.
-use Rattle.std.specs.Prelude.{◌≡◌, ◌<◌, ◌≤◌, ℕ, ◌+◌, ◌*◌, ◌^◌, Bool, false, List, [], ◌∷◌, ◌++◌, length, take, get_or, ◌==◌, if◌then◌else◌, Option, Some, None}
+use Rattle.std.specs.Prelude.{◌≡◌, ◌<◌, ◌≤◌, ℕ, ◌+◌, ◌*◌, ◌^◌, Bool, false, List, [], ◌∷◌, ◌++◌, length, map, take, get_or, true, ◌==◌, if◌then◌else◌, Option, Some, None}
 use Rattle.std.specs.List.{flat_map}
 use Rattle.h265_model.specs.declared.Item.{Item}
 use Rattle.h265_model.specs.declared.leaf.Leaf.{Leaf}
@@ -9,6 +9,7 @@ use Rattle.h265_model.specs.Contexts.{start, row_start}
 use Rattle.h265_model.specs.Code.{code, contexts_after, Ended}
 use Rattle.h265_model.specs.Tree.{Source, ctu_items, is_last, IsLawfulTree, AreAllowed}
 use Rattle.px_plane.specs.Planes.{Planes, picture_of}
+use Rattle.arrayvec.specs.ArrayVec.{ArrayVec}
 use Rattle.bin_items.specs.Growth.{IsOpen}
 use Rattle.pu_code.specs.Cells.{Cells, StandsFor}
 use Rattle.cabac_bytes.specs.State.{State, stands_for, phase_of}
@@ -17,23 +18,27 @@ use Rattle.row_coder.specs.Sources.{picture_source}
 
 -- the items of a coding tree unit of a row, by its number in the row, with end_of_slice_segment_flag (7.3.8.1); the leaves
 -- above are those that are known of the row above
-abbrev pub unit_items : SliceKind → Size → Source → List Leaf → List (List Leaf) → ℕ → ℕ → List Item
-unit_items kind size source above plans row i =
+abbrev pub flagged_ctu : SliceKind → Size → Source → List Leaf → List (List Leaf) → ℕ → ℕ → List Item
+flagged_ctu kind size source above plans row i =
     ctu_items kind size source (above ++ joined (take i plans)) (get_or plans i []) (row * ctus size.w + i) ++ terminate_bin (is_last size (row * ctus size.w + i)) ∷ []
 
 -- those of the first n coding tree units
-unfoldable pub units_items : SliceKind → Size → Source → List Leaf → List (List Leaf) → ℕ → ℕ → List Item
-units_items kind size source above plans row n = flat_map (unit_items kind size source above plans row) (below n)
+unfoldable pub first_ctus : SliceKind → Size → Source → List Leaf → List (List Leaf) → ℕ → ℕ → List Item
+first_ctus kind size source above plans row n = flat_map (flagged_ctu kind size source above plans row) (below n)
 
 -- those of the whole row; end_of_subset_one_bit ends each row but the last
-abbrev pub all_items : SliceKind → Size → Source → List Leaf → List (List Leaf) → ℕ → List Item
-all_items kind size source above plans row =
-    units_items kind size source above plans row (ctus size.w) ++ (if row + 1 == ctus size.h then [] else terminate_bin true ∷ [])
+abbrev pub whole_row : SliceKind → Size → Source → List Leaf → List (List Leaf) → ℕ → List Item
+whole_row kind size source above plans row =
+    first_ctus kind size source above plans row (ctus size.w) ++ (if row + 1 == ctus size.h then [] else terminate_bin true ∷ [])
 
--- the contexts that a row starts from, by those that it inherits (9.3.1)
-abbrev pub first_contexts : SliceKind → Size → ℕ → Option (List ℕ) → List ℕ
-first_contexts kind size row None = start kind
-first_contexts kind size row (Some contexts) = row_start kind (ctus size.w) row contexts
+-- the contexts that a row starts from, by how many coding tree units stand side by side and what it inherits (9.3.1)
+abbrev pub first_contexts : SliceKind → ℕ → ℕ → Option (List ℕ) → List ℕ
+first_contexts kind width row None = start kind
+first_contexts kind width row (Some contexts) = row_start kind width row contexts
+
+-- lists of leaves as plain lists
+abbrev pub leaves_of : List (ArrayVec Leaf) → List (List Leaf)
+leaves_of lists = map (λ l. l.items) lists
 
 -- a row: its picture, its kind of slice, its number, the leaves that are known of the row above, and those of its own coding tree
 -- units; whether it was begun, what it inherited, and how many units are coded, unless a call found no memory
@@ -51,10 +56,10 @@ pub record Row : Type 0 where
 unfoldable pub plan_of : Row → Plan
 plan_of r = record {
   width = length r.plans;
-  second = λ inherited. contexts_after (units_items r.kind r.planes.size (picture_source r.planes.size (picture_of r.planes)) r.above r.plans r.number 2)
-      (first_contexts r.kind r.planes.size r.number inherited);
-  bytes = λ inherited. code (all_items r.kind r.planes.size (picture_source r.planes.size (picture_of r.planes)) r.above r.plans r.number)
-      (first_contexts r.kind r.planes.size r.number inherited);
+  second = λ inherited. contexts_after (first_ctus r.kind r.planes.size (picture_source r.planes.size (picture_of r.planes)) r.above r.plans r.number 2)
+      (first_contexts r.kind (ctus r.planes.size.w) r.number inherited);
+  bytes = λ inherited. code (whole_row r.kind r.planes.size (picture_source r.planes.size (picture_of r.planes)) r.above r.plans r.number)
+      (first_contexts r.kind (ctus r.planes.size.w) r.number inherited);
 }
 
 -- how many units are coded; of a row that found no memory nothing can be asked
@@ -68,12 +73,17 @@ pub record AreTrees (kind : SliceKind) (size : Size) (row : ℕ) (plans : List (
   pub tree : (i : ℕ) → i < ctus size.w → IsLawfulTree size (row * ctus size.w + i) (get_or plans i [])
   pub allowed : (i : ℕ) → i < ctus size.w → AreAllowed kind (get_or plans i [])
 
+-- the leaves of the coding tree units of a row are lawful trees, of either kind of slice
+pub record AreAbove (size : Size) (row : ℕ) (plans : List (List Leaf)) : Type 0 where
+  pub many : length plans ≡ ctus size.w
+  pub tree : (i : ℕ) → i < ctus size.w → IsLawfulTree size (row * ctus size.w + i) (get_or plans i [])
+
 -- so many units are coded
 pub record IsCoded (r : Row) (grid : Cells) (coder : State) (n : ℕ) : Type 0 where
   pub within : n ≤ ctus r.planes.size.w
   pub grid_is : StandsFor grid (r.above ++ joined (take n r.plans))
-  pub coder_is : stands_for coder (units_items r.kind r.planes.size (picture_source r.planes.size (picture_of r.planes)) r.above r.plans r.number n)
-      (first_contexts r.kind r.planes.size r.number r.inherited)
+  pub coder_is : stands_for coder (first_ctus r.kind r.planes.size (picture_source r.planes.size (picture_of r.planes)) r.above r.plans r.number n)
+      (first_contexts r.kind (ctus r.planes.size.w) r.number r.inherited)
   pub is_open : r.number * ctus r.planes.size.w + n < ctus r.planes.size.w * ctus r.planes.size.h → IsOpen (phase_of coder)
   pub ended : r.number * ctus r.planes.size.w + n ≡ ctus r.planes.size.w * ctus r.planes.size.h → phase_of coder ≡ Ended
 
@@ -83,6 +93,7 @@ IsUnderWay r grid coder (Some n) = IsCoded r grid coder n
 
 -- what holds of each row and what it is coded with
 pub record IsRow (r : Row) (grid : Cells) (coder : State) : Type 0 where
+  pub wide : 0 < ctus r.planes.size.w
   pub number : r.number < ctus r.planes.size.h
   pub trees : AreTrees r.kind r.planes.size r.number r.plans
   pub size : grid.size ≡ r.planes.size

@@ -1,14 +1,11 @@
 //! The levels and samples of a picture.
-ghost use Rattle.std.specs.Prelude.{◌≡◌, ◌<◌, ◌≤◌, ◌^◌, ◌%◌, ◌+◌, IsTrue};
+ghost use Rattle.std.specs.Prelude.{◌≡◌};
 ghost use Rattle.std.specs.Arc.{arc_value};
-ghost use Rattle.h265_model.specs.Plain.{coded};
-ghost use Rattle.px_plane.specs.Planes.{picture_of};
-ghost use Rattle.row_coder.specs.Sources.{picture_source, is_placed};
 
-use crate::predicted::{predict_block, subtract_block};
-use bin_items::{Block, Kind, Leaf};
+use crate::predicted::{fill_levels, fill_samples};
+use bin_items::{Block, Leaf};
 use coding_tree::LevelSource;
-use px_plane::{Picture, Size};
+use px_plane::Picture;
 use std::alloc::Global;
 use std::marker::Model;
 use std::sync::Arc;
@@ -31,22 +28,6 @@ impl Model for PictureLevels {
     ghost view = { λ s. arc_value s.picture };
 }
 
-// Whether a coding unit begins at multiples of its side and lies wholly in the coded picture.
-fn is_placed(size: Size, leaf: Leaf) -> bool
-    requires low { 3 ≤ leaf.log2 }
-    requires high { leaf.log2 ≤ 5 }
-    ensures { result ≡ is_placed size leaf }
-{
-    let side = 1u32 << leaf.log2;
-    let (w, h) = ((size.w() + 7) / 8 * 8, (size.h() + 7) / 8 * 8);
-    leaf.x % side == 0
-        && leaf.y % side == 0
-        && leaf.x <= w
-        && leaf.x + side <= w
-        && leaf.y <= h
-        && leaf.y + side <= h
-}
-
 impl PictureLevels {
     /// The levels and samples of this picture. It takes no memory.
     pub fn new(now: Arc<Picture, Global>) -> PictureLevels
@@ -63,25 +44,31 @@ impl LevelSource for PictureLevels {
     ghost source = { λ s. picture_source s.size (picture_of s) };
 
     fn levels(&mut self, leaf: Leaf, component: u32, out: &mut Block) {
-        let placed = is_placed(self.picture.size(), leaf);
-        match leaf.kind {
-            Kind::Intra(mode) if placed && mode < 35 => {
-                let mut guess = [0u8; 1024];
-                let count = 1usize << (2 * leaf.log2);
-                predict_block(&self.picture, component, leaf, mode, &mut guess[..count]);
-                subtract_block(&self.picture, component, leaf, &guess[..count], out);
-            }
-            _ => *out = Block::zero(leaf.log2),
-        }
+        fill_levels(&self.picture, component, leaf, out);
     }
 
     fn samples(&mut self, leaf: Leaf, component: u32, out: &mut Block) {
-        if is_placed(self.picture.size(), leaf) {
-            let nothing = [0u8; 1024];
-            let count = 1usize << (2 * leaf.log2);
-            subtract_block(&self.picture, component, leaf, &nothing[..count], out);
-        } else {
-            *out = Block::zero(leaf.log2);
-        }
+        fill_samples(&self.picture, component, leaf, out);
+    }
+}
+
+/// The same of a picture that is lent.
+#[derive(Drop)]
+pub(crate) struct LentLevels<'a> {
+    pub(crate) lent: &'a Picture,
+}
+
+impl<'a> LevelSource for LentLevels<'a> {
+    ghost use Rattle.px_plane.specs.Planes.{picture_of};
+    ghost use Rattle.row_coder.specs.Sources.{picture_source};
+
+    ghost source = { λ s. picture_source s.lent.now.size (picture_of s.lent.now) };
+
+    fn levels(&mut self, leaf: Leaf, component: u32, out: &mut Block) {
+        fill_levels(self.lent, component, leaf, out);
+    }
+
+    fn samples(&mut self, leaf: Leaf, component: u32, out: &mut Block) {
+        fill_samples(self.lent, component, leaf, out);
     }
 }
