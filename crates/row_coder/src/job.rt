@@ -71,12 +71,15 @@ impl Model for CtuRow {
 }
 
 // The contexts that a row starts from (9.3.1). `across` is how many coding tree units stand side by side.
-fn first_of(kind: SliceKind, across: u32, number: u32, inherited: Option<Contexts>) -> Contexts
-    ensures { result ≡ first_contexts kind across number inherited }
+fn first_of(kind: SliceKind, across: u32, number: u32, inherited: &Option<Contexts>) -> Contexts
+    ensures { result ≡ first_contexts kind across number inherited.now }
 {
+    if number == 0 || across < 2 {
+        return Contexts::start(kind);
+    }
     match inherited {
-        Some(contexts) if number > 0 && across >= 2 => contexts,
-        _ => Contexts::start(kind),
+        Some(contexts) => *contexts,
+        None => Contexts::start(kind),
     }
 }
 
@@ -187,7 +190,7 @@ impl RowJob for CtuRow {
     }
 
     fn begin(&mut self, inherited: Option<Contexts>) {
-        let first = first_of(self.kind, self.width(), self.number, inherited);
+        let first = first_of(self.kind, self.width(), self.number, &inherited);
         self.coder = ByteCoder::new(self.alloc, first);
         self.inherited = inherited;
         self.begun = true;
