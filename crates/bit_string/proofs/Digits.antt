@@ -1,37 +1,23 @@
 -- Laws of a number's digits in parts.
-use Rattle.std.proofs.Common.{◌≡◌, ℕ, zero, suc, ◌+◌, ◌-◌, ◌*◌, ◌/◌, ◌%◌, ◌^◌, ◌<◌, ◌≤◌, Bool, true, false, List, [], ◌∷◌, ◌++◌, length, replicate, refl, sym, ◌∙◌, ap, arith, append_assoc, zero-add, length-append, pow-suc, mul_comm, inl, inr, get_or}
+use Rattle.std.proofs.Common.{◌≡◌, ℕ, zero, suc, ◌+◌, ◌-◌, ◌*◌, ◌/◌, ◌%◌, ◌^◌, ◌<◌, ◌≤◌, Bool, true, false, List, [], ◌∷◌, ◌++◌, length, replicate, refl, sym, ◌∙◌, ap, arith, append_assoc, length-append, pow-suc, mul_comm, inl, inr, get_or}
 use Rattle.std.specs.Prelude.{◌==◌}
 use Rattle.std.specs.Prelude.{bit_or, bit_and}
 use Rattle.std.proofs.Math.Nat.{pow-le-pow_right}
-use Rattle.std.proofs.lemmas.Nat.{pow_pos, shr_le, shr-shr, shl_whole, or_shifted, shr_high, mod_low, mod-pow-add, and_mask, one_shl}
+use Rattle.std.proofs.lemmas.Nat.{pow_pos, shr_le, shl_whole, or_shifted, shr_high, mod_low, mod-pow-add, and_mask, one_shl}
 use Rattle.std.proofs.lemmas.List.{append-nil}
-use Rattle.h265_model.specs.Bits.{u, ue, value_after, bits, bytes, alignment}
-use Rattle.h265_model.proofs.BitLaws.{value-u, length-u, digits_of, code_of}
-use Rattle.h265_model.proofs.ByteLaws.{u-value, bits-append, length-bits, bytes-bits}
+use Rattle.h265_model.specs.Bits.{u, ue, bits, bytes, alignment}
+use Rattle.h265_model.proofs.Digits.{u-mod, u-split}
+use Rattle.h265_model.proofs.BitLaws.{length-u, digits_of, code_of}
+use Rattle.h265_model.proofs.ByteLaws.{bits-append, length-bits, bytes-bits}
 use Rattle.h265_model.specs.Plain.{AreBytes}
 use Rattle.std.proofs.lemmas.Bool.{cases_lt}
-
-nothing_before : (p r : ℕ) → 0 * p + r ≡ r
-nothing_before p r = omega arith
-
--- only the low n digits count
-pub u-mod : (n v : ℕ) → u n (v % 2 ^ n) ≡ u n v
-u-mod n v =
-    ap (u n) (sym (value-u 0 n v ∙ nothing_before (2 ^ n) (v % 2 ^ n)))
-    ∙ ap (λ k. u k (value_after 0 (u n v))) (sym (length-u n v))
-    ∙ u-value 0 (u n v)
 
 pub u-same : (n v w : ℕ) → v % 2 ^ n ≡ w % 2 ^ n → u n v ≡ u n w
 u-same n v w e = sym (u-mod n v) ∙ ap (u n) e ∙ u-mod n w
 
--- digits in two parts
-pub u-split : (m n k v : ℕ) → k ≡ m + n → u k v ≡ u m (v / 2 ^ n) ++ u n v
-unfolding u
-u-split zero n k v e = ap (λ k. u k v) (e ∙ zero-add n)
-u-split (suc m) n k v e =
-    let whole : k ≡ suc (m + n) = omega arith in
-    let order : v / 2 ^ n / 2 ^ m ≡ v / 2 ^ (m + n) = shr-shr v n m ∙ ap (λ j. v / 2 ^ j) (omega arith) in
-    ap (λ k. u k v) whole ∙ rw order (ap (λ l. (v / 2 ^ (m + n) % 2 == 1) ∷ l) (u-split m n (m + n) v refl))
+-- digits in two parts, of a number of them that is known otherwise
+pub u-parts : (m n k v : ℕ) → k ≡ m + n → u k v ≡ u m (v / 2 ^ n) ++ u n v
+u-parts m n k v e = ap (λ (c : ℕ). u c v) e ∙ u-split m n v
 
 mod_below : (p v : ℕ) → 0 < p → v % p < p
 mod_below p v h = omega arith
@@ -48,7 +34,7 @@ u-byte m v h =
 -- a number after another's digits
 pub u-join : (m n a b : ℕ) → b < 2 ^ n → u (m + n) (a * 2 ^ n + b) ≡ u m a ++ u n b
 u-join m n a b h =
-    u-split m n (m + n) (a * 2 ^ n + b) refl
+    u-parts m n (m + n) (a * 2 ^ n + b) refl
     ∙ ap (λ x. u m x ++ u n (a * 2 ^ n + b)) (shr_high a n b h)
     ∙ ap (λ l. u m a ++ l) (sym (u-mod n (a * 2 ^ n + b)) ∙ ap (u n) (mod_low a n b h))
 
@@ -83,7 +69,7 @@ pub move_byte : (list : List ℕ) (left more word b : ℕ) → more ≡ 8 + left
 move_byte list left more word b e is =
     ap (λ l. l ++ u left word) (bits-push list b)
     ∙ append_assoc (bits list) (u 8 b) (u left word)
-    ∙ ap (λ l. bits list ++ l) (ap (λ x. u 8 x ++ u left word) is ∙ ap (λ l. l ++ u left word) (u-mod 8 (word / 2 ^ left)) ∙ sym (u-split 8 left more word e))
+    ∙ ap (λ l. bits list ++ l) (ap (λ x. u 8 x ++ u left word) is ∙ ap (λ l. l ++ u left word) (u-mod 8 (word / 2 ^ left)) ∙ sym (u-parts 8 left more word e))
 
 -- ---- what the writer computes
 

@@ -1,11 +1,11 @@
 -- Laws of tables that are read.
-use Rattle.std.proofs.Common.{◌≡◌, ℕ, zero, suc, ◌+◌, ◌-◌, ◌*◌, ◌/◌, ◌%◌, ◌^◌, ◌<◌, ◌≤◌, Bool, true, false, List, [], ◌∷◌, ◌++◌, length, take, drop, get_or, map, Option, Some, None, option_map, Result, Ok, Err, bit_or, refl, sym, ◌∙◌, ap, subst, arith, append_assoc, IsTrue, length-drop, length-append, take-append-drop}
+use Rattle.std.proofs.Common.{◌≡◌, ℕ, zero, suc, ◌+◌, ◌-◌, ◌*◌, ◌%◌, ◌^◌, ◌<◌, ◌≤◌, Bool, true, false, List, [], ◌∷◌, ◌++◌, length, take, drop, get_or, Option, Some, None, option_map, Result, Ok, Err, bit_or, refl, sym, ◌∙◌, ap, arith, append_assoc, IsTrue, length-drop, length-append, take-append-drop}
 use Rattle.std.specs.Prelude.{◌==◌, nat_lt, if◌then◌else◌}
 use Rattle.std.proofs.lemmas.Bool.Decides.{nat_tests}
 use Rattle.std.proofs.lemmas.Nat.{shl_whole, or_shifted}
 use Rattle.std.proofs.lemmas.List.{drop-drop, length-take-le, take_at, map_more, map-append}
 use Rattle.h265_model.specs.Script.{◌>>-◌}
-use Rattle.h265_model.specs.Bits.{value_after, value, read_u, read_alignment, is_empty}
+use Rattle.h265_model.specs.Bits.{value, read_u, read_alignment, is_empty}
 use Rattle.h265_model.specs.Fields as model
 use Rattle.h265_model.specs.Fields.{read_element, or_number, read_field, read_fields, read_trailing}
 use Rattle.h265_model.proofs.FieldLaws.{both}

@@ -1,15 +1,11 @@
 -- Laws of tables that are written and read.
-use Rattle.std.proofs.Common.{◌≡◌, ℕ, zero, suc, ◌+◌, ◌-◌, ◌*◌, ◌/◌, ◌^◌, ◌<◌, ◌≤◌, Bool, true, false, List, [], ◌∷◌, ◌++◌, length, take, get_or, map, refl, sym, ◌∙◌, ap, subst, arith, append_assoc, IsTrue}
-use Rattle.std.specs.Prelude.{◌==◌, nat_le, not, ◌&&◌}
-use Rattle.std.proofs.lemmas.Bool.Decides.{nat_tests}
-use Rattle.std.proofs.lemmas.List.{append-nil, map_more, drop_more}
-use Rattle.h265_model.specs.Plain.{Size, coded}
-use Rattle.h265_model.specs.Bits.{u, ue}
+use Rattle.std.proofs.Common.{◌≡◌, ℕ, zero, suc, ◌+◌, ◌-◌, ◌/◌, ◌^◌, ◌<◌, Bool, List, [], ◌∷◌, ◌++◌, length, take, get_or, sym, ◌∙◌, ap, arith, IsTrue}
+use Rattle.std.proofs.lemmas.List.{append-nil, map_more}
+use Rattle.h265_model.specs.Bits.{u}
 use Rattle.h265_model.specs.Fields as model
 use Rattle.h265_model.specs.Fields.{element_bits, fields_bits}
-use Rattle.h265_model.specs.ParamSets.{is_padded, size_fields}
 use Rattle.h265_model.proofs.FieldLaws.{both, fields_bits-append}
-use Rattle.bit_string.proofs.Digits.{u-split}
+use Rattle.bit_string.proofs.Digits.{u-parts}
 use Rattle.bit_string.specs.declared.fields.Field.{Field}
 use Rattle.bit_string.specs.Tables.{field_of, fields_of, is_writable, all_writable}
 
@@ -32,7 +28,7 @@ no_high v h = omega arith
 -- more than 32 bits of a number of 32 bits
 pub u-long : (n v : ℕ) → 32 < n → v < 2 ^ 32 → u (n - 32) 0 ++ u 32 v ≡ u n v
 u-long n v h b =
-    ap (λ x. u (n - 32) x ++ u 32 v) (sym (no_high v b)) ∙ sym (u-split (n - 32) 32 n v (omega arith))
+    ap (λ x. u (n - 32) x ++ u 32 v) (sym (no_high v b)) ∙ sym (u-parts (n - 32) 32 n v (omega arith))
 
 -- ---- tables one after another
 

@@ -8,7 +8,7 @@ use Rattle.h265_model.specs.Bits.{u, digit, value_after, value, bits, read_u}
 use Rattle.h265_model.proofs.BitLaws.{value-u, length-u}
 use Rattle.h265_model.proofs.ByteLaws.{u-value, value_below, bits-append, length-bits}
 use Rattle.bit_string.specs.Parts.{Cursor, moved_to}
-use Rattle.bit_string.proofs.Digits.{u-split, bits-push}
+use Rattle.bit_string.proofs.Digits.{u-parts, bits-push}
 
 -- ---- a word of bytes
 
@@ -54,8 +54,8 @@ window list index bit m n s word h whole is =
     sym (u-value 0 (bits part))
     ∙ ap (λ k. u k (value (bits part))) (long ∙ whole)
     ∙ ap (u (bit + (n + s))) (sym is)
-    ∙ u-split bit (n + s) (bit + (n + s)) word refl
-    ∙ ap (λ l. u bit (word / 2 ^ (n + s)) ++ l) (u-split n s (n + s) word refl) in
+    ∙ u-parts bit (n + s) (bit + (n + s)) word refl
+    ∙ ap (λ l. u bit (word / 2 ^ (n + s)) ++ l) (u-parts n s (n + s) word refl) in
     let front = u bit (word / 2 ^ (n + s)) in
     let found = u n (word / 2 ^ s) in
     let left : drop (8 * index + bit) (bits list) ≡ found ++ (u s word ++ rest) =

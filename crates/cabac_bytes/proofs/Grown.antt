@@ -1,9 +1,8 @@
 -- What a state stands for after a call.
-use Rattle.std.proofs.Common.{◌≡◌, refl, sym, ◌∙◌, ap, ℕ, zero, suc, ◌+◌, ◌*◌, ◌^◌, ◌<◌, ◌≤◌, Bool, true, false, not, List, [], ◌∷◌, ◌++◌, length, append_assoc, append-nil, ◌-◌, ◌/◌, ◌%◌, ne_eqb, eq-eqb, eqb-true, zero-add, mod-lt, bit_and, arith}
-use Rattle.std.proofs.lemmas.Nat.{pow_pos, one_shl, and_mask, shr-shr}
+use Rattle.std.proofs.Common.{◌≡◌, refl, sym, ◌∙◌, ap, ℕ, ◌+◌, ◌*◌, ◌^◌, ◌<◌, ◌≤◌, Bool, true, false, not, List, [], ◌∷◌, ◌++◌, length, append-nil, ◌-◌, ◌/◌, ◌%◌, ne_eqb, eq-eqb, eqb-true, mod-lt, bit_and, arith}
+use Rattle.std.proofs.lemmas.Nat.{pow_pos, one_shl, and_mask}
 use Rattle.std.proofs.lemmas.List.{map-append}
-use Rattle.h265_model.proofs.BitLaws.{value-u, length-u}
-use Rattle.h265_model.proofs.ByteLaws.{u-value}
+use Rattle.h265_model.proofs.Digits.{u-mod, u-split}
 use Rattle.h265_model.specs.Plain.{bypass_bin}
 use Rattle.h265_model.specs.Binarise.{bypass_bins, fl}
 use Rattle.std.proofs.lemmas.Bool.{eqb-false}
@@ -12,8 +11,9 @@ use Rattle.h265_model.specs.declared.memory.NoMemory.{NoMemory}
 use Rattle.h265_model.specs.declared.Item.{Item}
 use Rattle.h265_model.specs.declared.Item.TheVariants as items
 use Rattle.h265_model.specs.declared.Place.TheVariants.{Terminate}
-use Rattle.h265_model.specs.Bits.{is_empty, digit, u, value_after}
-use Rattle.h265_model.specs.Code.{Coding, coding, fresh, put, code, contexts_after, Phase, Plain, Ended, Filled}
+use Rattle.h265_model.specs.Bits.{is_empty, digit, u}
+use Rattle.h265_model.specs.Code.{Coding, coding, fresh, code, contexts_after, Phase, Plain, Ended, Filled}
+use Rattle.h265_model.proofs.CodeLaws.{coding_append, coding_samples}
 use Rattle.bin_items.specs.Growth.{Grew, Kept, Takes, IsOpen, sample_items}
 use Rattle.cabac_bytes.specs.Pending.{Pending}
 use Rattle.cabac_bytes.specs.State.{State, Shows, HasEnded, StandsIf, stands_for, Follows, Ends, Fills, phase_of, is_fresh}
@@ -61,10 +61,6 @@ pub ended_range : (s : State) → phase_of s ≡ Ended → s.range ≡ 0
 ended_range s h = ended_by s.range (s.range == 0) (is_fresh s && not (is_empty s.pending.out)) refl h
 
 -- ---- growth
-
-pub coding_append : (a b : List Item) (c : Coding) → coding (a ++ b) c ≡ coding b (coding a c)
-coding_append [] b c = refl
-coding_append (item ∷ a) b c = coding_append a b (put item c)
 
 same : (old new : State) → new ≡ old → Kept (stands_for old) (stands_for new)
 same old new e = record { from = λ front contexts h. rw e h }
@@ -115,10 +111,6 @@ bytes_of_all s list contexts e h = (if_ended (s.range == 0) s (coding list (fres
 
 -- ---- samples
 
-coding_samples : (xs done contexts : List ℕ) → coding (sample_items xs) (fresh done contexts) ≡ fresh (done ++ xs) contexts
-coding_samples [] done contexts = ap (λ (d : List ℕ). fresh d contexts) (sym (append-nil done))
-coding_samples (x ∷ xs) done contexts = coding_samples xs (done ++ x ∷ []) contexts ∙ ap (λ (d : List ℕ). fresh d contexts) (append_assoc done (x ∷ []) xs)
-
 not_empty : (a b : List ℕ) → 0 < length b → is_empty (a ++ b) ≡ false
 not_empty [] [] h = absurd (omega arith)
 not_empty [] (y ∷ b) h = refl
@@ -151,24 +143,6 @@ one_bin false = refl
 pub takes_bypass : (b : Bool) (result : Result (Unit {0}) NoMemory) (old new : State) → 0 < old.range → OnOk result (Follows (bypass_bins (fl 1 (digit b))) old new) → OnErr result (new ≡ old) →
     Takes (bypass_bin b ∷ []) (stands_for old) (stands_for new) result
 takes_bypass b result old new h f e = takes_follows (bypass_bin b ∷ []) result old new h (rw (one_bin b) at f) e
-
-nothing_before : (p r : ℕ) → 0 * p + r ≡ r
-nothing_before p r = omega arith
-
--- only the low n digits count
-u-mod : (n v : ℕ) → u n (v % 2 ^ n) ≡ u n v
-u-mod n v =
-    ap (u n) (sym (value-u 0 n v ∙ nothing_before (2 ^ n) (v % 2 ^ n)))
-    ∙ ap (λ k. u k (value_after 0 (u n v))) (sym (length-u n v))
-    ∙ u-value 0 (u n v)
-
-u-split : (m n v : ℕ) → u (m + n) v ≡ u m (v / 2 ^ n) ++ u n v
-unfolding u
-u-split zero n v = ap (λ k. u k v) (zero-add n)
-u-split (suc m) n v =
-    let whole : suc m + n ≡ suc (m + n) = omega arith in
-    let order : v / 2 ^ n / 2 ^ m ≡ v / 2 ^ (m + n) = shr-shr v n m ∙ ap (λ j. v / 2 ^ j) (omega arith) in
-    ap (λ k. u k v) whole ∙ rw order (ap (λ l. (v / 2 ^ (m + n) % 2 == 1) ∷ l) (u-split m n v))
 
 -- the first digits, as the code takes them
 pub first_few : (left some v : ℕ) → some ≤ left → some ≤ 8 →

@@ -1,5 +1,5 @@
 -- What a state stands for after a call.
-use Rattle.std.proofs.Common.{◌≡◌, refl, sym, ◌∙◌, ap, ℕ, suc, length, get_or, ◌<◌, Bool, true, false, List, [], ◌∷◌, ◌++◌, append_assoc, append-nil, ne_eqb, eq-eqb, eqb-true, arith}
+use Rattle.std.proofs.Common.{◌≡◌, refl, sym, ◌∙◌, ap, ℕ, suc, length, get_or, ◌<◌, Bool, true, false, List, [], ◌∷◌, ◌++◌, append-nil, ne_eqb, eq-eqb, eqb-true, arith}
 use Rattle.std.proofs.lemmas.Bool.{eqb-false}
 use Rattle.std.specs.Prelude.{Ok, Err, Result, OnOk, OnErr, ◌==◌, if◌then◌else◌}
 use Rattle.h265_model.specs.declared.memory.NoMemory.{NoMemory}
@@ -8,9 +8,10 @@ use Rattle.h265_model.specs.declared.Item.TheVariants as items
 use Rattle.h265_model.specs.declared.Place.TheVariants.{Terminate}
 use Rattle.h265_model.specs.Plain.{AreBytes}
 use Rattle.h265_model.specs.Bits.{bits, bytes, u}
-use Rattle.h265_model.specs.Code.{Coding, coding, fresh, put, code, contexts_after, Plain, Ended, Filled}
+use Rattle.h265_model.specs.Code.{Coding, coding, fresh, code, contexts_after, Plain, Ended, Filled}
 use Rattle.h265_model.proofs.ByteLaws.{bits-append, bytes-bits}
 use Rattle.h265_model.proofs.ListParts.{all_append}
+use Rattle.h265_model.proofs.CodeLaws.{coding_append, coding_samples}
 use Rattle.bin_items.specs.Growth.{Grew, Kept, Takes, IsOpen, sample_items}
 use Rattle.cabac_enc.specs.State.{State, Shows, HasEnded, StandsIf, stands_for, Follows, Ends, Fills, phase_of}
 
@@ -54,10 +55,6 @@ pub ended_range : (s : State) → phase_of s ≡ Ended → s.range ≡ 0
 ended_range s h = ended_by s.range (s.range == 0) (s.after_samples) refl h
 
 -- ---- growth
-
-pub coding_append : (a b : List Item) (c : Coding) → coding (a ++ b) c ≡ coding b (coding a c)
-coding_append [] b c = refl
-coding_append (item ∷ a) b c = coding_append a b (put item c)
 
 same : (old new : State) → new ≡ old → Kept (stands_for old) (stands_for new)
 same old new e = record { from = λ front contexts h. rw e h }
@@ -111,10 +108,6 @@ unfolding code
 bytes_of_all s list contexts e h = bytes_if (s.range == 0) s (coding list (fresh [] contexts)) (is_ended s (ended_range s e)) h
 
 -- ---- samples
-
-coding_samples : (xs done contexts : List ℕ) → coding (sample_items xs) (fresh done contexts) ≡ fresh (done ++ xs) contexts
-coding_samples [] done contexts = ap (λ (d : List ℕ). fresh d contexts) (sym (append-nil done))
-coding_samples (x ∷ xs) done contexts = coding_samples xs (done ++ x ∷ []) contexts ∙ ap (λ (d : List ℕ). fresh d contexts) (append_assoc done (x ∷ []) xs)
 
 pub filled : (old : State) (list : List Bool) (samples : List ℕ) → AreBytes samples → list ≡ old.bits ++ bits samples →
     Fills samples old (record { bits = list; low = 0; range = 510; after_samples = true; contexts = old.contexts })

@@ -8,7 +8,8 @@ use Rattle.std.specs.Prelude.{◌==◌, set}
 use Rattle.h265_model.specs.Bits.{u, digit, value, bytes}
 use Rattle.h265_model.proofs.BitLaws.{value-u, length-u}
 use Rattle.h265_model.proofs.ByteLaws.{u-value}
-use Rattle.cabac_enc.proofs.Digits.{exchanged, u-mod, u-join, value-behind}
+use Rattle.h265_model.proofs.Digits.{u-mod}
+use Rattle.cabac_enc.proofs.Digits.{exchanged, u-join, value-behind}
 
 -- ---- digits pushed one after another
 

@@ -1,7 +1,7 @@
 -- What is written of some units of a list, and what is left.
 use Rattle.std.proofs.Common.{◌≡◌, refl, sym, ◌∙◌, ap, subst, ℕ, zero, suc, ◌+◌, ◌<◌, ◌≤◌, List, [], ◌∷◌, ◌++◌, length, take, drop, get_or, append_assoc, append-nil, arith}
 use Rattle.std.proofs.Math.ListN.{drop_of_length-le}
-use Rattle.std.proofs.lemmas.List.{take-append-drop, drop_more}
+use Rattle.std.proofs.lemmas.List.{take_all, drop_more}
 use Rattle.std.specs.List.{AllByRecursion}
 use Rattle.h265_model.specs.declared.leaf.SliceKind.{SliceKind}
 use Rattle.h265_model.specs.declared.leaf.Leaf.{Leaf}
@@ -11,7 +11,7 @@ use Rattle.h265_model.proofs.ListParts.{take_more}
 use Rattle.bin_items.specs.Growth.{Meaning, Grew, TookAllBut, TookFront}
 use Rattle.bin_items.proofs.Growing.{nothing_taken, took_more, took_as, took_all, stopped}
 use Rattle.pu_code.specs.Cells.{Cells, StandsFor}
-use Rattle.coding_tree.specs.Units.{unit_items}
+use Rattle.coding_tree.specs.UnitFlags.{unit_items}
 use Rattle.coding_tree.proofs.UnitWalks.{units_items}
 
 -- the first n of a list, and the next one
@@ -19,10 +19,6 @@ one_more : (before leaves : List Leaf) (n : ℕ) (d : Leaf) → n < length leave
 one_more before leaves n d h =
     let k : suc n ≡ n + 1 = omega arith in
     append_assoc before (take n leaves) (get_or leaves n d ∷ []) ∙ ap (λ (l : List Leaf). before ++ l) (sym (take_more leaves n d h) ∙ ap (λ m. take m leaves) k)
-
-all_taken : (leaves : List Leaf) (n : ℕ) → length leaves ≤ n → take n leaves ≡ leaves
-all_taken leaves n h =
-    sym (append-nil (take n leaves)) ∙ (ap (λ (l : List Leaf). take n leaves ++ l) (sym (drop_of_length-le leaves h)) ∙ take-append-drop n leaves)
 
 -- of these units, which come after those before, the first n are written
 pub record Written (kind : SliceKind) (size : Size) (source : Source) (before leaves : List Leaf) (n : ℕ) (start now : Meaning) : Type 0 where
@@ -75,7 +71,7 @@ has_set_more first now next leaves n d h f s =
     record { set = λ before at. subst (StandsFor next) (one_more before leaves n d h) (f (before ++ take n leaves) (s.set before at)) }
 
 pub has_set_all : (first now : Cells) (leaves : List Leaf) (n : ℕ) → length leaves ≤ n → HasSet first now leaves n → (before : List Leaf) → StandsFor first before → StandsFor now (before ++ leaves)
-has_set_all first now leaves n h s before at = subst (λ (l : List Leaf). StandsFor now (before ++ l)) (all_taken leaves n h) (s.set before at)
+has_set_all first now leaves n h s before at = subst (λ (l : List Leaf). StandsFor now (before ++ l)) (take_all n leaves h) (s.set before at)
 
 -- one of a list
 pub all_at : {A : Type 0} (T : A → Type 0) (list : List A) (n : ℕ) (d : A) → n < length list → AllByRecursion T list → T (get_or list n d)

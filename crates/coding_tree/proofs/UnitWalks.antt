@@ -10,7 +10,7 @@ use Rattle.h265_model.specs.Plain.{Size, context_bin, leaf_with, ctu_x, ctu_y}
 use Rattle.h265_model.specs.Predict.{is_inside}
 use Rattle.h265_model.specs.Tree.{Source, Walk, walk_on, and_walk, quarters, coding_unit_walk, coding_unit_items, no_walk, is_whole, is_leaf, tree_walk, split_context, ctu_items, IsCodingUnit, AreQuarters, IsTree, IsLawfulTree}
 use Rattle.coding_tree.specs.Splits.{split_items}
-use Rattle.coding_tree.specs.Units.{begins, flag_items, flags_items, unit_items}
+use Rattle.coding_tree.specs.UnitFlags.{begins, flag_items, flags_items, unit_items}
 use Rattle.coding_tree.proofs.Trees.{HasHalf, has_half, IsCorner, AreCorners, corners, corner_at, IsLater, IsBlock, tree_block, ctu_corner}
 
 -- ---- which blocks begin with a unit

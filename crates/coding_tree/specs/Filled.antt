@@ -1,5 +1,6 @@
 -- What a source fills a block with.
-use Rattle.std.specs.Prelude.{◌≡◌, ℕ, List, map, pos}
+use Rattle.std.specs.Prelude.{◌≡◌, ◌<◌, ℕ, List, map, ℤ, pos, negsuc}
+use Rattle.std.specs.List.{AllByRecursion}
 use Rattle.h265_model.specs.Residual.{AreLevels}
 use Rattle.h265_model.specs.Tree.{Source}
 use Rattle.h265_model.specs.declared.leaf.Leaf.{Leaf}
@@ -15,3 +16,9 @@ pub record HasLevels (source : Source) (leaf : Leaf) (component : ℕ) (block : 
 pub record HasSamples (source : Source) (leaf : Leaf) (component : ℕ) (block : Square) : Type 0 where
   pub side : block.log2 ≡ leaf.log2
   pub samples : block.levels ≡ map pos (source.samples leaf component)
+  pub fit : AllByRecursion (λ x. x < 256) (source.samples leaf component)
+
+-- a sample as a level
+abbrev pub IsSample : ℤ → Type 0
+IsSample (pos n) = n < 256
+IsSample (negsuc n) = ⊥

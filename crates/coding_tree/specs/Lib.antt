@@ -1,3 +1,4 @@
 pub mod Filled
 pub mod Splits
+pub mod UnitFlags
 pub mod Units

@@ -1,24 +1,28 @@
--- A coding unit with the flags of the blocks that begin with it (7.3.8.4).
-use Rattle.std.specs.Prelude.{ℕ, ◌%◌, ◌^◌, Bool, ◌&&◌, ◌==◌, nat_le, nat_lt, List, [], ◌++◌, if◌then◌else◌}
+-- The parts of a coding unit (7.3.8.5).
+use Rattle.std.specs.Prelude.{ℕ, Bool, true, false, ◌==◌, List, [], ◌∷◌, ◌++◌, if◌then◌else◌}
 use Rattle.h265_model.specs.declared.Item.{Item}
-use Rattle.h265_model.specs.declared.leaf.Leaf.{Leaf}
 use Rattle.h265_model.specs.declared.leaf.SliceKind.{SliceKind}
-use Rattle.h265_model.specs.Plain.{Size}
-use Rattle.h265_model.specs.Tree.{Source, coding_unit_items}
-use Rattle.coding_tree.specs.Splits.{split_items}
+use Rattle.h265_model.specs.declared.leaf.Leaf.{Leaf}
+use Rattle.h265_model.specs.Plain.{context_bin}
+use Rattle.h265_model.specs.Residual.{cbf, residual_items, shape}
+use Rattle.h265_model.specs.Tree.{Source, in_P, is_skipped, content_items}
+use Rattle.bin_items.specs.Square.{Square}
 
--- a block of side 2 ^ log2 begins with the unit, which is no larger
-abbrev pub begins : Leaf → ℕ → Bool
-begins leaf log2 = nat_le leaf.log2 log2 && (leaf.x % 2 ^ log2 == 0 && leaf.y % 2 ^ log2 == 0)
+-- part_mode, of a side of 8
+abbrev pub part_items : ℕ → List Item
+part_items log2 = if log2 == 3 then context_bin true 8 ∷ [] else []
 
--- the flag of that block, where there is one
-unfoldable pub flag_items : Size → List Leaf → Leaf → ℕ → List Item
-flag_items size before leaf log2 = if begins leaf log2 then split_items size before leaf.x leaf.y log2 (nat_lt leaf.log2 log2) else []
+-- what follows cu_skip_flag in a unit that is no copy, and in any
+abbrev pub coded_items : SliceKind → Source → List Leaf → Leaf → List Item
+coded_items kind source before leaf = in_P kind (context_bin true 7 ∷ []) ++ (part_items leaf.log2 ++ content_items source before leaf leaf.kind)
 
--- the flags before the unit, from that of the largest block on
-unfoldable pub flags_items : Size → List Leaf → Leaf → List Item
-flags_items size before leaf = flag_items size before leaf 5 ++ flag_items size before leaf 4
+abbrev pub rest_items : SliceKind → Source → List Leaf → Leaf → List Item
+rest_items kind source before leaf = if is_skipped leaf.kind then [] else coded_items kind source before leaf
 
--- the flags and the unit
-unfoldable pub unit_items : SliceKind → Size → Source → List Leaf → Leaf → List Item
-unit_items kind size source before leaf = flags_items size before leaf ++ coding_unit_items kind source before leaf
+-- intra_chroma_pred_mode, cbf_cb, cbf_cr and cbf_luma
+abbrev pub coded_flags : Bool → Bool → Bool → List Item
+coded_flags luma cb cr = context_bin false 10 ∷ context_bin cb 12 ∷ context_bin cr 12 ∷ context_bin luma 11 ∷ []
+
+-- a component's levels under a scan
+abbrev pub block_items : ℕ → ℕ → Square → List Item
+block_items scan component block = if cbf block.levels then residual_items (shape component block.log2 scan) block.levels else []

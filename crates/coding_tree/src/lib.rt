@@ -1,7 +1,10 @@
 //! The coding tree of a coding tree unit as bins and samples (Rec. ITU-T H.265, 7.3.8.2 to 7.3.8.5).
 #![tactic(auto)]
 
+mod flag;
+mod intra;
 mod leaf;
+mod pcm;
 mod source;
 mod split;
 mod tree;
@@ -13,3 +16,6 @@ pub use pu_code::Grid;
 pub use source::LevelSource;
 pub use split::write_split;
 pub use tree::write_ctu;
+
+#[cfg(test)]
+mod tests;

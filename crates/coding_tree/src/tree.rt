@@ -5,7 +5,7 @@ ghost use Rattle.h265_model.specs.Desk.{tile_count};
 ghost use Rattle.h265_model.specs.Tree.{ctu_items, IsLawfulTree, AreAllowed, IsAllowed};
 ghost use Rattle.bin_items.specs.Growth.{IsOpen, Writes};
 ghost use Rattle.pu_code.specs.Cells.{StandsFor, IsUnit};
-ghost use Rattle.coding_tree.specs.Units.{begins, flag_items, flags_items, unit_items};
+ghost use Rattle.coding_tree.specs.UnitFlags.{begins, flag_items, flags_items, unit_items};
 
 use crate::leaf::write_leaf;
 use crate::source::LevelSource;
@@ -66,24 +66,29 @@ fn write_unit<S: BinSink, V: LevelSource>(
     ensures size { grid.new.size ≡ grid.old.size }
     ensures source { V.source source.new ≡ V.source source.old }
 {
-    write_flags(sink, grid, size, leaf)?;
+    write_split_flags(sink, grid, size, leaf)?;
     write_leaf(sink, kind, grid, leaf, source)
 }
 
 // Writes the flags of the blocks that begin with this unit, from that of the largest on.
-fn write_flags<S: BinSink>(sink: &mut S, grid: &Grid, size: Size, leaf: Leaf) -> Result<(), NoMemory>
+fn write_split_flags<S: BinSink>(
+    sink: &mut S,
+    grid: &Grid,
+    size: Size,
+    leaf: Leaf,
+) -> Result<(), NoMemory>
     requires size { grid.now.size ≡ size }
     requires unit { IsUnit size leaf }
     requires not_ended { IsOpen (S.phase sink.old) }
     ensures taken { (before : List TheLeaf) → StandsFor grid.now before → Writes (flags_items size before leaf) (S.stands_for sink.old) (S.stands_for sink.new) result }
     ensures not_ended { IsOpen (S.phase sink.new) }
 {
-    write_flag(sink, grid, size, leaf, 5)?;
-    write_flag(sink, grid, size, leaf, 4)
+    write_split_flag(sink, grid, size, leaf, 5)?;
+    write_split_flag(sink, grid, size, leaf, 4)
 }
 
 // Writes the flag of the block of this side, where one begins with this unit.
-fn write_flag<S: BinSink>(
+fn write_split_flag<S: BinSink>(
     sink: &mut S,
     grid: &Grid,
     size: Size,

@@ -1,12 +1,12 @@
 -- The law of slice headers: nothing else is read as a header.
-use Rattle.std.proofs.Common.{◌≡◌, ℕ, zero, suc, ◌+◌, ◌-◌, ◌*◌, ◌/◌, ◌%◌, ◌<◌, ◌≤◌, Bool, true, false, cond, List, [], ◌∷◌, ◌++◌, length, map, take, Ok, Err, Result, refl, sym, ◌∙◌, ap, subst, arith, append_assoc, length-append}
+use Rattle.std.proofs.Common.{◌≡◌, ℕ, zero, suc, ◌+◌, ◌-◌, ◌*◌, ◌/◌, ◌%◌, ◌<◌, Bool, true, false, cond, List, [], ◌∷◌, ◌++◌, length, map, take, Ok, Err, refl, sym, ◌∙◌, ap, subst, arith, append_assoc, length-append}
 use Rattle.std.specs.Prelude.{nat_lt}
 use Rattle.std.proofs.Math.Seq.{take-append_seam}
 use Rattle.std.proofs.lemmas.List.{append-nil}
 use Rattle.h265_model.specs.Script.{◌>>-◌}
 use Rattle.h265_model.specs.Plain.{AreBytes}
 use Rattle.h265_model.specs.Bits.{u, value, bits, bytes, alignment, read_alignment}
-use Rattle.h265_model.specs.Fields.{Field, U, fixed, golomb, fields_bits, aligned_bits, read_field, read_fields, or_number}
+use Rattle.h265_model.specs.Fields.{U, fixed, golomb, fields_bits, aligned_bits, read_field, read_fields, or_number}
 use Rattle.h265_model.specs.SliceHead.{Head, head_front, poc_fields, head_middle, entry_fields, head_fields, head_bits, read_poc, read_offsets, read_entries, read_head}
 use Rattle.h265_model.proofs.ByteLaws.{bytes-bits, bits-bytes, length-bits, length-bits-mod}
 use Rattle.h265_model.proofs.FieldLaws.{bits-aligned_bits}

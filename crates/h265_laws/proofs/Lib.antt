@@ -27,6 +27,7 @@ pub mod SliceLaw
 pub mod EndsLaw
 pub mod LengthLaw
 pub mod PictureLaw
+pub mod SubstreamLaw
 pub mod StreamLaw
 pub mod WaveLaw
 pub mod Examples

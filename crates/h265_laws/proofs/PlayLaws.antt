@@ -1,5 +1,5 @@
 -- What a script shows and what is written of it, line by line.
-use Rattle.std.proofs.Common.{◌≡◌, ◌≢◌, ℕ, zero, suc, ◌+◌, ◌<◌, ◌≤◌, Bool, true, false, List, [], ◌∷◌, ◌++◌, length, get_or, map, take, drop, take-append-drop, mul_comm, ◌-◌, ◌*◌, Option, Some, None, refl, sym, ◌∙◌, ap, subst, arith, add-one, append_assoc, length-append}
+use Rattle.std.proofs.Common.{◌≡◌, ℕ, zero, suc, ◌+◌, ◌≤◌, Bool, true, false, List, [], ◌∷◌, ◌++◌, length, map, take, drop, take-append-drop, mul_comm, ◌-◌, ◌*◌, Option, Some, None, refl, sym, ◌∙◌, ap, arith, add-one, append_assoc}
 use Rattle.std.specs.Prelude.{count_by, not, ◌==◌, cond, slice_index_or, fold}
 use Rattle.std.specs.List.{AllByRecursion, last_or, range_with_len}
 use Rattle.std.proofs.lemmas.Bool.Decides.{nat_tests}
@@ -14,7 +14,7 @@ use Rattle.h265_model.specs.Plain.{Size}
 use Rattle.h265_model.specs.Words.{Settings}
 use Rattle.h265_model.specs.Script.{is_cut}
 use Rattle.h265_model.specs.Raster.{Raster, IsRaster, IsColour, HasColours, raster, colour, repainted, paints as paints_place, rasters_after, lines_of, pictures, accepted_line}
-use Rattle.h265_model.specs.Histories.{own_order, cuts, paints, indexes_of, take_numbers, takes, script_length, IsLawful}
+use Rattle.h265_model.specs.Histories.{own_order, cuts, paints, indexes_of, take_numbers, script_length, IsLawful}
 use Rattle.h265_model.specs.NalUnits.{stream_bytes}
 use Rattle.h265_model.specs.ParamSets.{param_units}
 use Rattle.h265_model.specs.Stream.{pieces, pieces_after, picture_piece}

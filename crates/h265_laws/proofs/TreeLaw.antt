@@ -1,8 +1,8 @@
 -- A coding tree that was written is read.
-use Rattle.std.proofs.Common.{◌≡◌, refl, sym, ◌∙◌, ap, subst, ℕ, zero, suc, ◌+◌, ◌*◌, ◌%◌, ◌^◌, ◌<◌, ◌≤◌, List, [], ◌∷◌, ◌++◌, Bool, true, false, cond, not, ◌&&◌, length, take, drop, replicate, append_assoc, append-nil, arith, ⊎_elim, length-append}
-use Rattle.std.specs.Prelude.{Some, get_or, nat_lt, map, ◌==◌, ◌⊎◌, ◌≢◌, ℤ, pos, negsuc, MatchBool}
+use Rattle.std.proofs.Common.{◌≡◌, refl, sym, ◌∙◌, ap, subst, ℕ, zero, suc, ◌+◌, ◌*◌, ◌^◌, ◌<◌, ◌≤◌, List, [], ◌∷◌, ◌++◌, Bool, true, false, cond, not, length, take, drop, replicate, append_assoc, append-nil, arith, ⊎_elim, length-append}
+use Rattle.std.specs.Prelude.{Some, get_or, map, ◌==◌, ◌⊎◌, ℤ, pos, negsuc, MatchBool}
 use Rattle.std.specs.Bool.{beq}
-use Rattle.std.proofs.lemmas.Bool.{agree_below, agree_below_at, and_parts, not-true, ltb-true, cond-true, cond-false, eqb-true, eqb-false, eq-eqb, ne_eqb}
+use Rattle.std.proofs.lemmas.Bool.{cond-true, cond-false, eq-eqb, ne_eqb}
 use Rattle.h265_model.specs.declared.Place.{Place}
 use Rattle.h265_model.specs.declared.Item.{Item}
 use Rattle.h265_model.specs.declared.Place.TheVariants.{Context, Terminate}
@@ -16,7 +16,8 @@ use Rattle.h265_model.specs.Plain.{Size, context_bin, leaf_with, ctu_x, ctu_y}
 use Rattle.h265_model.specs.Engine.{Engine, bin, samples, Part, Run, sample_first, parts_of, Gives, Reader, ◌>>=◌, give, refuse, Reads}
 use Rattle.h265_model.specs.Residual.{cbf, residual_items, residual_read, IsSide, eight, sixteen, thirty_two, AreLevels}
 use Rattle.h265_model.specs.Binarise.{tr, fl, bypass_bins}
-use Rattle.h265_model.specs.Modes.{candidates, mode_items, mode_read, index_items, remainder_of, AreCandidates}
+use Rattle.h265_model.specs.Modes.{mode_items, mode_read, index_items, remainder_of, AreThree}
+use Rattle.h265_model.proofs.Candidates.{candidates_at_are}
 use Rattle.h265_model.specs.Predict.{square, is_inside}
 use Rattle.h265_model.specs.Tree
 use Rattle.h265_model.specs.Tree.{IsLawfulTree, ctu_read, ctu_items, Walk, walk_on, and_walk, quarters, quarters_read, leaves_after, coding_unit_walk, no_walk, is_whole, is_leaf, tree_walk, tree_read, IsCodingUnit, AreQuarters, IsTree, IsMode, mode_of, candidate, leaf_at, left_of, above, covers, Source, shape_of, residual_if, content_items, in_P, coding_unit_items, is_skipped, skip_context, split_context, candidates_at, leaf_side, Content, Copied, Samples, Levels, ReadLeaf, kind_of, leaf_of, expect, thirds, intra_read, pcm_read, content_read, part_mode_read, coded_read, skip_read, coding_unit_read, IsSource, content_of, read_of, AreModes, IsAllowed, reads_of, AreAllowed}
@@ -67,95 +68,6 @@ residual_if_are log2 mode component levels = go (cbf levels)
     go false = tt
 
 -- ---- candidates
-
-candidates_fit : ℕ → ℕ → Bool
-unfolding candidates
-candidates_fit a b =
-    let l : List ℕ = candidates a b in
-    let x : ℕ = get_or l 0 0 in
-    let y : ℕ = get_or l 1 0 in
-    let z : ℕ = get_or l 2 0 in
-    (length l == 3) && ((nat_lt x 35 && (nat_lt y 35 && nat_lt z 35)) && (not (x == y) && (not (x == z) && not (y == z))))
-
-candidates_all_fit : agree_below (λ a. agree_below (candidates_fit a) (λ b. true) 35) (λ a. true) 35 ≡ true
-unfolding candidates_fit
-candidates_all_fit = refl
-
-three_of : (l : List ℕ) → length l ≡ 3 → l ≡ get_or l 0 0 ∷ get_or l 1 0 ∷ get_or l 2 0 ∷ []
-three_of [] h = absurd (omega arith)
-three_of (a ∷ []) h = absurd (omega arith)
-three_of (a ∷ b ∷ []) h = absurd (omega arith)
-three_of (a ∷ b ∷ c ∷ []) h = refl
-three_of (a ∷ b ∷ c ∷ d ∷ l) h = absurd (omega arith)
-
-pub record AreThree (l : List ℕ) : Type 0 where
-  pub first : ℕ
-  pub second : ℕ
-  pub third : ℕ
-  pub is : l ≡ first ∷ second ∷ third ∷ []
-  pub are : AreCandidates first second third
-
-differs : (a b : ℕ) → not (a == b) ≡ true → a ≢ b
-differs a b h = eqb-false a b (not-true (a == b) h)
-
-candidates_are : (a b : ℕ) → a < 35 → b < 35 → AreThree (candidates a b)
-unfolding candidates_fit
-candidates_are a b ha hb =
-    let l : List ℕ = candidates a b in
-    let x : ℕ = get_or l 0 0 in
-    let y : ℕ = get_or l 1 0 in
-    let z : ℕ = get_or l 2 0 in
-    let row : agree_below (candidates_fit a) (λ c. true) 35 ≡ true = agree_below_at (λ c. agree_below (candidates_fit c) (λ d. true) 35) (λ c. true) 35 a candidates_all_fit ha in
-    let cell : ((length l == 3) && ((nat_lt x 35 && (nat_lt y 35 && nat_lt z 35)) && (not (x == y) && (not (x == z) && not (y == z))))) ≡ true = agree_below_at (candidates_fit a) (λ c. true) 35 b row hb in
-    let p : ((length l == 3) ≡ true) × (((nat_lt x 35 && (nat_lt y 35 && nat_lt z 35)) && (not (x == y) && (not (x == z) && not (y == z)))) ≡ true) = and_parts _ _ cell in
-    let q : ((nat_lt x 35 && (nat_lt y 35 && nat_lt z 35)) ≡ true) × ((not (x == y) && (not (x == z) && not (y == z))) ≡ true) = and_parts _ _ p.1 in
-    let q1 : (nat_lt x 35 ≡ true) × ((nat_lt y 35 && nat_lt z 35) ≡ true) = and_parts _ _ q.0 in
-    let q2 : (nat_lt y 35 ≡ true) × (nat_lt z 35 ≡ true) = and_parts _ _ q1.1 in
-    let r1 : (not (x == y) ≡ true) × ((not (x == z) && not (y == z)) ≡ true) = and_parts _ _ q.1 in
-    let r2 : (not (x == z) ≡ true) × (not (y == z) ≡ true) = and_parts _ _ r1.1 in
-    record {
-      first = x;
-      second = y;
-      third = z;
-      is = three_of l (eqb-true _ _ p.0);
-      are = record {
-        first = ltb-true _ _ q1.0;
-        second = ltb-true _ _ q2.0;
-        third = ltb-true _ _ q2.1;
-        a_b = differs x y r1.0;
-        a_c = differs x z r2.0;
-        b_c = differs y z r2.1;
-      };
-    }
-
-mode_bound : (k : Kind) → IsMode k → mode_of k < 35
-mode_bound Skip h = omega arith
-mode_bound Pcm h = omega arith
-mode_bound (Intra mode) h = h
-
-candidate_bound : (leaves : List Leaf) (x y : ℕ) → AreModes leaves → candidate (leaf_at leaves x y) < 35
-candidate_bound [] x y h = omega arith
-candidate_bound (leaf ∷ leaves) x y h = go (covers x y leaf) (candidate_bound leaves x y h.1)
-  where
-    go : (b : Bool) → candidate (leaf_at leaves x y) < 35 → candidate (cond b (Some leaf) (leaf_at leaves x y)) < 35
-    go true k = mode_bound leaf.kind h.0
-    go false k = k
-
-left_bound : (leaves : List Leaf) (x y : ℕ) → AreModes leaves → candidate (left_of leaves x y) < 35
-left_bound leaves zero y h = omega arith
-left_bound leaves (suc x) y h = candidate_bound leaves x y h
-
-above_bound : (leaves : List Leaf) (x y : ℕ) → AreModes leaves → candidate (above leaves x y) < 35
-above_bound leaves x zero h = omega arith
-above_bound leaves x (suc y) h = candidate_bound leaves x y h
-
-candidates_at_are : (leaves : List Leaf) (x y : ℕ) → AreModes leaves → AreThree (candidates_at leaves x y)
-unfolding candidates_at
-candidates_at_are leaves x y h = candidates_are _ _ (left_bound leaves x y h) (go (y % 32 == 0))
-  where
-    go : (b : Bool) → cond b 1 (candidate (above leaves x y)) < 35
-    go true = omega arith
-    go false = above_bound leaves x y h
 
 reads_mode : (l : List ℕ) (mode : ℕ) → mode < 35 → AreThree l → Reads (mode_read l) (mode_items mode l) mode
 reads_mode l mode h t = subst (λ (c : List ℕ). Reads (mode_read c) (mode_items mode c) mode) (sym t.is) (mode_law mode t.first t.second t.third h t.are)

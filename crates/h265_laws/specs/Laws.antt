@@ -1,5 +1,5 @@
 -- Laws over the definitions: what is written is read back.
-use Rattle.std.specs.Prelude.{◌≡◌, ℕ, ◌+◌, ◌-◌, ◌*◌, ◌^◌, ◌<◌, ◌≤◌, Bool, List, [], ◌∷◌, ◌++◌, length, take, IsTrue, Ok, Some, ℤ, map, flat_map, Option}
+use Rattle.std.specs.Prelude.{slice_index, ◌≡◌, ℕ, ◌+◌, ◌-◌, ◌*◌, ◌^◌, ◌<◌, ◌≤◌, Bool, List, [], ◌∷◌, ◌++◌, length, take, IsTrue, Ok, Some, ℤ, map, flat_map, Option}
 use Rattle.std.specs.List.{AllByRecursion}
 use Rattle.h265_model.specs.declared.Item.{Item}
 use Rattle.h265_model.specs.declared.line.Line.{Line}
@@ -148,6 +148,13 @@ abbrev pub EachRowIsWellFormed : Type 0
 EachRowIsWellFormed =
     (kind : SliceKind) (size : Size) (source : Source) (leaves : List (List Leaf)) (row : ℕ) →
     IsSlice kind size source leaves → row < ctus size.h → IsWellFormed (items_of_row kind size source leaves row)
+
+-- the bytes of a row end in one that isn't 0, and an entry point can count them (7.4.7.1)
+abbrev pub EachRowIsSubstream : Type 0
+EachRowIsSubstream =
+    (kind : SliceKind) (size : Size) (source : Source) (leaves : List (List Leaf)) (row : ℕ) →
+    IsSlice kind size source leaves → ctus size.w ≤ 128 → row < ctus size.h →
+    (let bytes : List ℕ = row_code kind size source leaves row in (0 < slice_index bytes (length bytes - 1)) × (length bytes < 2 ^ 31))
 
 -- ---- slice data and pictures
 

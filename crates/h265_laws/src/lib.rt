@@ -1,7 +1,7 @@
 //! Laws over the definitions of `h265_model`. Each function does nothing: its clause is the law.
 #![tactic(auto)]
 
-ghost use Rattle.h265_laws.specs.Laws.{EachCodeIsRead, EachNalUnitIsRead, EachSizeIsRead, EachSizeIsSpelled, EachHeadIsRead, EachHeadIsSpelled, EachEscapeIsUndone, EachSubstreamIsCut, EachListIsReadBack, EachTruncatedCodeIsRead, EachFixedCodeIsRead, EachGolombCodeIsRead, EachRemainingLevelIsRead, EachModeIsRead, EachBlockIsRead, EachLeafIsRead, EachTreeIsRead, EachRowIsRead, EachChoiceIsLawful, EachPictureIsSource, EachRowIsWellFormed, EachSliceIsRead, EachPictureIsRebuilt, EachRasterIsCropped, EachPictureIsRaster, EachStreamIsDecoded, EachPrefixIsKept, EachScheduleGivesTheBytes};
+ghost use Rattle.h265_laws.specs.Laws.{EachCodeIsRead, EachNalUnitIsRead, EachSizeIsRead, EachSizeIsSpelled, EachHeadIsRead, EachHeadIsSpelled, EachEscapeIsUndone, EachSubstreamIsCut, EachListIsReadBack, EachTruncatedCodeIsRead, EachFixedCodeIsRead, EachGolombCodeIsRead, EachRemainingLevelIsRead, EachModeIsRead, EachBlockIsRead, EachLeafIsRead, EachTreeIsRead, EachRowIsRead, EachChoiceIsLawful, EachPictureIsSource, EachRowIsWellFormed, EachRowIsSubstream, EachSliceIsRead, EachPictureIsRebuilt, EachRasterIsCropped, EachPictureIsRaster, EachStreamIsDecoded, EachPrefixIsKept, EachScheduleGivesTheBytes};
 
 /// Each Exp-Golomb code is read back.
 pub fn each_code_is_read()
@@ -106,6 +106,11 @@ pub fn each_picture_is_source()
 /// The items of each row are well formed.
 pub fn each_row_is_well_formed()
     ensures { EachRowIsWellFormed }
+{}
+
+/// The bytes of each row can be a substream.
+pub fn each_row_is_substream()
+    ensures { EachRowIsSubstream }
 {}
 
 /// The rows of each slice are read back.

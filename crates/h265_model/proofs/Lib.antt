@@ -5,3 +5,7 @@ pub mod UnitLaws
 pub mod FieldLaws
 pub mod SyntaxLaws
 pub mod Squares
+pub mod Candidates
+pub mod Digits
+pub mod Doublings
+pub mod CodeLaws

@@ -1,5 +1,5 @@
 -- Laws of the size that is read.
-use Rattle.std.proofs.Common.{◌≡◌, ℕ, ◌+◌, ◌-◌, ◌*◌, ◌%◌, ◌<◌, ◌≤◌, Bool, true, false, List, [], ◌∷◌, Option, Some, None, Result, Ok, Err, refl, sym, ◌∙◌, ap, subst, arith, IsTrue}
+use Rattle.std.proofs.Common.{◌≡◌, ℕ, ◌+◌, ◌-◌, ◌*◌, ◌<◌, ◌≤◌, Bool, true, false, List, Option, Some, None, Result, Ok, Err, refl, sym, ◌∙◌, ap, subst, arith, IsTrue}
 use Rattle.std.specs.Prelude.{◌==◌, ◌&&◌, nat_le, nat_lt, if◌then◌else◌, MatchResult, ok_or}
 use Rattle.std.specs.Option.{SomeIff}
 use Rattle.std.proofs.lemmas.Bool.Decides.{nat_tests}
@@ -7,8 +7,8 @@ use Rattle.h265_model.specs.Script.{◌>>-◌}
 use Rattle.h265_model.specs.Plain.{Size}
 use Rattle.h265_model.specs.Words.{is_size, most_area, most_side}
 use Rattle.h265_model.specs.Bits.{read_u}
-use Rattle.h265_model.specs.Fields.{U, golomb, or_number, read_field, read_fields}
-use Rattle.h265_model.specs.ParamSets.{is_coded_side, read_side, read_offset, read_whole, windowed, read_window, read_size}
+use Rattle.h265_model.specs.Fields.{or_number}
+use Rattle.h265_model.specs.ParamSets.{is_coded_side, read_side, read_whole, windowed, read_window, read_size}
 
 abbrev Sized : Type 0
 Sized = Result (Size × List Bool) ℕ

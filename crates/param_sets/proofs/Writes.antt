@@ -1,15 +1,12 @@
 -- Laws of the size that is written.
-use Rattle.std.proofs.Common.{◌≡◌, ℕ, zero, suc, ◌+◌, ◌-◌, ◌*◌, ◌/◌, ◌^◌, ◌<◌, ◌≤◌, Bool, true, false, List, [], ◌∷◌, ◌++◌, length, take, get_or, map, refl, sym, ◌∙◌, ap, subst, arith, append_assoc, IsTrue}
-use Rattle.std.specs.Prelude.{◌==◌, nat_le, not, ◌&&◌}
+use Rattle.std.proofs.Common.{◌≡◌, ℕ, ◌+◌, ◌-◌, ◌≤◌, Bool, true, false, List, [], ◌++◌, refl, ◌∙◌, ap, arith, append_assoc}
+use Rattle.std.specs.Prelude.{◌==◌, not, ◌&&◌}
 use Rattle.std.proofs.lemmas.Bool.Decides.{nat_tests}
-use Rattle.std.proofs.lemmas.List.{append-nil, map_more, drop_more}
+use Rattle.std.proofs.lemmas.List.{append-nil}
 use Rattle.h265_model.specs.Plain.{Size, coded}
 use Rattle.h265_model.specs.Bits.{u, ue}
-use Rattle.h265_model.specs.Fields as model
-use Rattle.h265_model.specs.Fields.{element_bits, fields_bits}
+use Rattle.h265_model.specs.Fields.{fields_bits}
 use Rattle.h265_model.specs.ParamSets.{is_padded, size_fields}
-use Rattle.h265_model.proofs.FieldLaws.{both, fields_bits-append}
-use Rattle.bit_string.proofs.Digits.{u-split}
 
 -- ---- the size
 

@@ -4,7 +4,7 @@ use Rattle.std.proofs.lemmas.Bool.{cond-true, cond-false, eq-eqb, ne_eqb}
 use Rattle.h265_model.specs.Plain.{context_bin}
 use Rattle.h265_model.specs.Binarise.{fl, bypass_bins}
 use Rattle.h265_model.specs.Modes.{mode_items, index_items, remainder_of}
-use Rattle.pu_code.specs.Candidates.{AreThree}
+use Rattle.h265_model.specs.Modes.{AreThree}
 
 pub first_is : (mode : ℕ) (list : List ℕ) → mode ≡ get_or list 0 0 → mode_items mode list ≡ index_items 0
 unfolding mode_items

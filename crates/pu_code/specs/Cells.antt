@@ -16,10 +16,16 @@ pub record Cells : Type 0 where
 abbrev pub blocks : ℕ → ℕ
 blocks n = (n + 7) / 8
 
--- a size within the limits, and cells that cover it
+-- the mode of a cell as a candidate
+abbrev pub mode_kept : Option Cell → ℕ
+mode_kept None = 1
+mode_kept (Some cell) = cell.mode
+
+-- a size within the limits, and cells that cover it, with modes below 35
 pub record AreCells (g : Cells) : Type 0 where
   pub sized : IsTrue (is_size g.size)
   pub long : length g.cells ≡ blocks g.size.w * blocks g.size.h
+  pub modes : (x y : ℕ) → x < blocks g.size.w → mode_kept (slice_index_or g.cells (y * blocks g.size.w + x) None) < 35
 
 -- what is kept of a leaf, and of the leaf at a place
 abbrev pub cell_of : Leaf → Cell
@@ -65,8 +71,3 @@ is_smaller log2 (Some cell) = nat_lt cell.log2 log2
 abbrev pub is_copy : Option Cell → Bool
 is_copy None = false
 is_copy (Some cell) = cell.skipped
-
--- its mode as a candidate
-abbrev pub mode_kept : Option Cell → ℕ
-mode_kept None = 1
-mode_kept (Some cell) = cell.mode

@@ -3,9 +3,8 @@ ghost use Rattle.std.specs.Prelude.{◌≡◌, ℕ, ◌+◌, ◌*◌, ◌-◌, �
 ghost use Rattle.h265_model.specs.declared.leaf.Leaf.{Leaf as TheLeaf};
 ghost use Rattle.h265_model.specs.Plain.{coded};
 ghost use Rattle.h265_model.specs.Tree as tree;
-ghost use Rattle.h265_model.specs.Tree.{AreModes};
-ghost use Rattle.pu_code.specs.Candidates.{AreThree};
-ghost use Rattle.pu_code.specs.Cells.{blocks, cell_at, kept_of, StandsFor, IsUnit};
+ghost use Rattle.h265_model.specs.Modes.{AreThree};
+ghost use Rattle.pu_code.specs.Cells.{blocks, cell_at, kept_of, mode_kept, StandsFor, IsUnit};
 
 use crate::cell::{Cell, DC, candidate, fill_square, is_copy, is_smaller};
 use crate::mode::candidates_of;
@@ -77,7 +76,8 @@ impl Grid {
     fn cell(&self, x: u32, y: u32) -> Option<Cell>
         requires across { x < coded self.now.size.w }
         requires down { y < coded self.now.size.h }
-        ensures { result ≡ cell_at self.now x y }
+        ensures value { result ≡ cell_at self.now x y }
+        ensures mode { mode_kept result < 35 }
     {
         let columns = blocks_of(self.size.w());
         self.cells[(y / 8) as usize * columns + (x / 8) as usize]
@@ -88,7 +88,8 @@ impl Grid {
     fn left_of(&self, x: u32, y: u32) -> Option<Cell>
         requires across { x < coded self.now.size.w }
         requires down { y < coded self.now.size.h }
-        ensures { (leaves : List TheLeaf) → StandsFor self.now leaves → result ≡ kept_of (tree.left_of leaves x y) }
+        ensures value { (leaves : List TheLeaf) → StandsFor self.now leaves → result ≡ kept_of (tree.left_of leaves x y) }
+        ensures mode { mode_kept result < 35 }
     {
         if x == 0 {
             return None;
@@ -101,7 +102,8 @@ impl Grid {
     fn above(&self, x: u32, y: u32) -> Option<Cell>
         requires across { x < coded self.now.size.w }
         requires down { y < coded self.now.size.h }
-        ensures { (leaves : List TheLeaf) → StandsFor self.now leaves → result ≡ kept_of (tree.above leaves x y) }
+        ensures value { (leaves : List TheLeaf) → StandsFor self.now leaves → result ≡ kept_of (tree.above leaves x y) }
+        ensures mode { mode_kept result < 35 }
     {
         if y == 0 {
             return None;
@@ -114,7 +116,8 @@ impl Grid {
     fn candidate_above(&self, x: u32, y: u32) -> u32
         requires across { x < coded self.now.size.w }
         requires down { y < coded self.now.size.h }
-        ensures { (leaves : List TheLeaf) → StandsFor self.now leaves → result ≡ (if y % 32 == 0 then 1 else tree.candidate (tree.above leaves x y)) }
+        ensures value { (leaves : List TheLeaf) → StandsFor self.now leaves → result ≡ (if y % 32 == 0 then 1 else tree.candidate (tree.above leaves x y)) }
+        ensures mode { result < 35 }
     {
         if y % 32 == 0 {
             return DC;
@@ -127,7 +130,7 @@ impl Grid {
         requires across { x < coded self.now.size.w }
         requires down { y < coded self.now.size.h }
         ensures value { (leaves : List TheLeaf) → StandsFor self.now leaves → result.items ≡ tree.candidates_at leaves x y }
-        ensures three { (leaves : List TheLeaf) → StandsFor self.now leaves → AreModes leaves → AreThree result.items }
+        ensures three { AreThree result.items }
     {
         let left = candidate(self.left_of(x, y));
         candidates_of(left, self.candidate_above(x, y))
@@ -137,7 +140,9 @@ impl Grid {
     pub fn skip_context(&self, x: u32, y: u32) -> u32
         requires across { x < coded self.now.size.w }
         requires down { y < coded self.now.size.h }
-        ensures { (leaves : List TheLeaf) → StandsFor self.now leaves → result ≡ tree.skip_context leaves x y }
+        ensures value { (leaves : List TheLeaf) → StandsFor self.now leaves → result ≡ tree.skip_context leaves x y }
+        ensures low { 4 ≤ result }
+        ensures high { result ≤ 6 }
     {
         4 + u32::from(is_copy(self.left_of(x, y))) + u32::from(is_copy(self.above(x, y)))
     }
@@ -147,7 +152,9 @@ impl Grid {
     pub fn split_context(&self, x: u32, y: u32, depth: u32) -> u32
         requires across { x < coded self.now.size.w }
         requires down { y < coded self.now.size.h }
-        ensures { (leaves : List TheLeaf) → StandsFor self.now leaves → result ≡ tree.split_context leaves x y (5 - depth) }
+        ensures value { (leaves : List TheLeaf) → StandsFor self.now leaves → result ≡ tree.split_context leaves x y (5 - depth) }
+        ensures low { 1 ≤ result }
+        ensures high { result ≤ 3 }
     {
         let log2 = 5u32.saturating_sub(depth);
         let left = is_smaller(self.left_of(x, y), log2);

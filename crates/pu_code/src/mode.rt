@@ -5,7 +5,7 @@ ghost use Rattle.h265_model.specs.Binarise.{bypass_bins, fl};
 ghost use Rattle.h265_model.specs.Modes as modes;
 ghost use Rattle.h265_model.specs.Modes.{mode_items, index_items, remainder_of, AreCandidates};
 ghost use Rattle.bin_items.specs.Growth.{IsOpen, Writes};
-ghost use Rattle.pu_code.specs.Candidates.{AreThree};
+ghost use Rattle.h265_model.specs.Modes.{AreThree};
 
 use arrayvec::ArrayVec;
 use bin_items::{Bin, BinSink, NoMemory, Place, write_fl, write_tr};

@@ -8,7 +8,7 @@ use Rattle.h265_model.specs.Plain.{Picture, place_values, below}
 use Rattle.h265_model.specs.declared.line.Rect.{Rect}
 use Rattle.px_plane.specs.declared.compare.RowPart.{RowPart}
 use Rattle.px_plane.specs.Blocks.{same_at, same_places, compared, IsSameBlock, IsRowPart, IsFront, row_same}
-use Rattle.px_plane.proofs.Places.{length_places, at_places}
+use Rattle.h265_model.proofs.Squares.{length_places, at_places}
 
 -- ---- one position
 

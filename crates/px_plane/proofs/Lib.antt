@@ -1,5 +1,4 @@
 pub mod Below
-pub mod Places
 pub mod Rows
 pub mod Shown
 pub mod Painted

@@ -10,7 +10,7 @@ use Rattle.h265_model.specs.Lines.{black as unpainted}
 use Rattle.h265_model.specs.declared.line.Line.{Line}
 use Rattle.h265_model.specs.Raster.{Raster, colour, raster, component, coded_picture, plane, planes, stored_picture}
 use Rattle.px_plane.specs.Planes.{Planes, plane_of, planes_of, picture_of, IsPicture, Stores, Shows, ShowsLines, black}
-use Rattle.px_plane.proofs.Places.{at_places, places_are}
+use Rattle.h265_model.proofs.Squares.{at_places, places_are}
 
 -- ---- sizes
 

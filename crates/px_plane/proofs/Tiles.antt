@@ -14,7 +14,7 @@ use Rattle.px_plane.specs.declared.plane.Sides.{Sides}
 use Rattle.px_plane.specs.Planes.{Planes, picture_of, IsPicture, Stores, Shows}
 use Rattle.px_plane.specs.Rows.{IsPutInto, is_in, sample_at}
 use Rattle.px_plane.specs.Tiles.{tile_of, in_tile, laid_first, laid, DiffersOnlyIn, IsTilePart, IsTileLaid}
-use Rattle.px_plane.proofs.Places.{length_places, at_places}
+use Rattle.h265_model.proofs.Squares.{length_places, at_places}
 use Rattle.px_plane.proofs.Shown.{planes_from_stores}
 
 -- ---- where a tile lies

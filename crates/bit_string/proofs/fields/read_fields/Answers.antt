@@ -1,4 +1,4 @@
-use Rattle.std.proofs.Common.{◌≡◌, ◌+◌, Ok, Err, refl}
+use Rattle.std.proofs.Common.{◌+◌, Ok, Err, refl}
 use Rattle.std.proofs.lemmas.Result.{err_from_is_err_and}
 use Rattle.h265_model.specs.Fields.{read_fields}
 use Rattle.bit_string.specs.declared.fields.Descriptor.TheVariants.{U}

@@ -1,4 +1,4 @@
-use Rattle.std.proofs.Common.{◌≡◌, ◌++◌, List, Bool, take, get_or, sym, ◌∙◌, ap, append_assoc}
+use Rattle.std.proofs.Common.{◌++◌, take, get_or, sym, ◌∙◌, ap, append_assoc}
 use Rattle.std.proofs.lemmas.List.{append-nil}
 use Rattle.h265_model.specs.Fields.{fields_bits, element_bits}
 use Rattle.bit_string.specs.declared.fields.Descriptor.TheVariants.{U}

@@ -1,6 +1,6 @@
-use Rattle.std.proofs.Common.{◌≡◌, ◌++◌, List, [], ◌∷◌, sym, ◌∙◌, ap}
+use Rattle.std.proofs.Common.{◌≡◌, ◌++◌, ◌∙◌, ap}
 use Rattle.h265_model.specs.Bits.{bytes}
-use Rattle.h265_model.specs.Fields.{Field, fixed, fields_bits, aligned_bits}
+use Rattle.h265_model.specs.Fields.{fields_bits, aligned_bits}
 use Rattle.h265_model.specs.ParamSets.{pps_fields}
 use Rattle.param_sets.proofs.writing.pps.Goals as goal
 

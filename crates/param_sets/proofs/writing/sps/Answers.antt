@@ -1,7 +1,7 @@
 use Rattle.std.proofs.Common.{◌≡◌, ◌++◌, ◌∙◌, ap}
 use Rattle.h265_model.specs.Bits.{bytes}
 use Rattle.h265_model.specs.Fields.{fields_bits, aligned_bits}
-use Rattle.h265_model.specs.ParamSets.{sps_front, profile_tier_level, sps_formats, size_fields, sps_back, sps_fields}
+use Rattle.h265_model.specs.ParamSets.{sps_front, profile_tier_level, sps_formats, size_fields, sps_back}
 use Rattle.bit_string.proofs.TableLaws.{tables-two}
 use Rattle.param_sets.proofs.writing.sps.Goals as goal
 

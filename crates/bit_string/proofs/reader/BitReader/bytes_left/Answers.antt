@@ -1,4 +1,4 @@
-use Rattle.std.proofs.Common.{◌≡◌, ℕ, ◌+◌, ◌-◌, ◌*◌, ◌/◌, length, ap, ◌∙◌, sym, arith}
+use Rattle.std.proofs.Common.{◌≡◌, ◌+◌, ◌-◌, ◌*◌, length, ap, ◌∙◌, sym, arith}
 use Rattle.bit_string.specs.Parts.{Cursor}
 use Rattle.bit_string.proofs.Windows.{long_left}
 use Rattle.bit_string.proofs.reader.BitReader.bytes_left.Goals as goal

@@ -1,7 +1,8 @@
 use Rattle.std.proofs.Common.{◌-◌, arith}
 use Rattle.std.specs.Int.Count.{count_leading_zeros}
 use Rattle.cabac_bytes.specs.State.{State}
-use Rattle.cabac_bytes.proofs.Steps.{doubled, renormal, renormalised}
+use Rattle.h265_model.proofs.Doublings.{doubled}
+use Rattle.cabac_bytes.proofs.Steps.{renormal, renormalised}
 use Rattle.cabac_bytes.proofs.coder.ByteCoder.renormalise.Goals as goal
 
 pub overflow_sub-doublings : goal.overflow_sub-doublings

@@ -1,6 +1,7 @@
 use Rattle.std.proofs.Common.{◌-◌, arith}
 use Rattle.std.specs.Int.Count.{count_leading_zeros}
-use Rattle.cabac_enc.proofs.Steps.{doubled, renormal, renormalised}
+use Rattle.h265_model.proofs.Doublings.{doubled}
+use Rattle.cabac_enc.proofs.Steps.{renormal, renormalised}
 use Rattle.cabac_enc.proofs.coder.Coder.renormalise.Goals as goal
 
 pub overflow_sub-doublings : goal.overflow_sub-doublings

@@ -1,0 +1,4 @@
+//! Tests of the bins and samples of coding trees.
+
+mod trees;
+mod units;
