@@ -8,8 +8,8 @@ ghost use Rattle.block_choice.specs.Plans.{IsSameTree, TellsCopies, before};
 
 use crate::copies::equal_squares;
 use crate::leaf::Task;
-use crate::leaves::Leaves;
 use crate::split::plan_block;
+use bin_items::Leaves;
 use px_plane::{Picture, Steps};
 use std::sync::ledger::Ledger;
 
@@ -29,7 +29,7 @@ fn plan_with(
     requires whole_x { x % 32 ≡ 0 }
     requires whole_y { y % 32 ≡ 0 }
     requires copies { TellsCopies copies has_prev (picture_of prev.now) (picture_of now.now) now.now.size x y }
-    ensures { result ≡ (plan (before has_prev (picture_of prev.now)) (picture_of now.now) now.now.size effort 2 x y).leaves }
+    ensures { result.items ≡ (plan (before has_prev (picture_of prev.now)) (picture_of now.now) now.now.size effort 2 x y).leaves }
 {
     let task = Task {
         last: prev,
@@ -63,8 +63,8 @@ pub fn plan_ctu<L: Ledger>(
     requires sizes { IfSome prev (λ p. p.now.size ≡ now.now.size) }
     requires untouched { IfSome prev (λ p. touched ≡ false → IsSameTree (picture_of p.now) (picture_of now.now) now.now.size ctu) }
     ensures choice { MatchOption prev.entry
-        (result ≡ choice None (picture_of now.now) now.now.size effort ctu)
-        (λ p. result ≡ choice (Some (picture_of p.now)) (picture_of now.now) now.now.size effort ctu) }
+        (result.items ≡ choice None (picture_of now.now) now.now.size effort ctu)
+        (λ p. result.items ≡ choice (Some (picture_of p.now)) (picture_of now.now) now.now.size effort ctu) }
     ensures low { steps.old ≤ steps.new }
     ensures high { steps.new ≤ steps.old + 1024 }
     ensures none { touched ≡ false → steps.new ≡ steps.old }

@@ -4,12 +4,11 @@
 mod choose;
 mod copies;
 mod leaf;
-mod leaves;
 mod modes;
 mod split;
 
+pub use bin_items::Leaves;
 pub use choose::plan_ctu;
-pub use leaves::Leaves;
 
 #[cfg(test)]
 mod tests;

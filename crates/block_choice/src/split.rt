@@ -1,12 +1,13 @@
 //! The cheapest coding units of a block: one, or those of its quarters.
-ghost use Rattle.std.specs.Prelude.{◌≡◌, ℕ, ◌+◌, ◌*◌, ◌^◌, ◌<◌, ◌≤◌, length};
+ghost use Rattle.std.specs.Prelude.{◌≡◌, ℕ, ◌+◌, ◌*◌, ◌^◌, ◌<◌, ◌≤◌};
+ghost use Rattle.arrayvec.specs.ArrayVec.{array_vec_len};
 ghost use Rattle.h265_model.specs.Choice.{plan, split_plan};
 ghost use Rattle.h265_model.specs.Predict.{is_inside};
 ghost use Rattle.px_plane.specs.Planes.{picture_of};
 ghost use Rattle.block_choice.specs.Plans.{IsTask, IsPlace, IsPlanned, before_of};
 
 use crate::leaf::{Task, side, whole_leaf};
-use crate::leaves::Leaves;
+use bin_items::Leaves;
 use h265_model::Leaf;
 
 // Whether a place is in the coded picture.
@@ -30,11 +31,11 @@ fn plan_split(
     requires task { IsTask task.now }
     requires depth { depth ≤ 1 }
     requires place { IsPlace task.now (depth + 1) x y }
-    requires room { length leaves.old + 4 * 4 ^ depth ≤ 16 }
+    requires room { array_vec_len leaves.old + 4 * 4 ^ depth ≤ 16 }
     ensures planned { IsPlanned result limit
         (split_plan (plan (before_of task.now) (picture_of task.now.current.now) task.now.current.now.size task.now.effort depth) (2 ^ (3 + depth)) x y)
-        leaves.old leaves.new }
-    ensures few { length leaves.new ≤ length leaves.old + 4 * 4 ^ depth }
+        leaves.old.items leaves.new.items }
+    ensures few { array_vec_len leaves.new ≤ array_vec_len leaves.old + 4 * 4 ^ depth }
 {
     let half = side(3 + depth);
     let mark = leaves.len();
@@ -65,11 +66,11 @@ pub(crate) fn plan_block(
     requires task { IsTask task.now }
     requires depth { depth ≤ 2 }
     requires place { IsPlace task.now depth x y }
-    requires room { length leaves.old + 4 ^ depth ≤ 16 }
+    requires room { array_vec_len leaves.old + 4 ^ depth ≤ 16 }
     ensures planned { IsPlanned result limit
         (plan (before_of task.now) (picture_of task.now.current.now) task.now.current.now.size task.now.effort depth x y)
-        leaves.old leaves.new }
-    ensures few { length leaves.new ≤ length leaves.old + 4 ^ depth }
+        leaves.old.items leaves.new.items }
+    ensures few { array_vec_len leaves.new ≤ array_vec_len leaves.old + 4 ^ depth }
 {
     if !is_inside(task, x, y) {
         return if limit > 0 { Some(0) } else { None };

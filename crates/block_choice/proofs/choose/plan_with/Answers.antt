@@ -15,4 +15,4 @@ leaves_are (Some cost) prev now size effort x y old new none is = is.2 âˆ™ ap (Î
 pub returns : goal.returns
 returns c =
     leaves_are c.plan_block-cost.result (before c.args.has_prev (picture_of c.args.prev.now)) (picture_of c.args.now.now) c.args.now.now.size c.args.effort c.args.x c.args.y
-    c.new-leaves.result c.plan_block-cost.new.leaves c.new-leaves.ensures c.plan_block-cost.ensures.planned
+    c.new-leaves.result.items c.plan_block-cost.new.leaves.items c.new-leaves.ensures c.plan_block-cost.ensures.planned

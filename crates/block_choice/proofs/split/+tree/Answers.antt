@@ -1,5 +1,6 @@
 use Rattle.std.proofs.Common.{◌≡◌, ℕ, ◌+◌, ◌-◌, ◌*◌, ◌<◌, ◌≤◌, ◌^◌, List, [], ◌∷◌, ◌++◌, take, length, true, refl, sym, ap, ◌∙◌, arith, length-append}
 use Rattle.std.specs.Prelude.{Some, None}
+use Rattle.arrayvec.specs.ArrayVec.{ArrayVec}
 use Rattle.h265_model.specs.declared.leaf.Leaf.{Leaf}
 use Rattle.h265_model.specs.Plain.{leaf_with}
 use Rattle.h265_model.specs.Predict.{is_inside}
@@ -20,7 +21,7 @@ plan_block-returns-in-Some-plan_split-clause-planned t c =
     elim c.match-leaf.branch [ plan_block-in-Some w ↦ w.bound-is ∙ rw w.in-Some.is refl | plan_block-in-None w ↦ w.bound-is ∙ rw w.in-None.is refl ] in
     let inside : is_inside k.current.now.size c.args.x c.args.y ≡ true = sym c.is_inside.ensures ∙ c.if-not-is_inside.false in
     split_planned (before_of k) (picture_of k.current.now) k.current.now.size k.effort c.whole_leaf-leaf.result c.args.limit c.args.depth c.args.x c.args.y c.in-Some-plan_split.cost
-    c.args.leaves.now c.plan_split.new.leaves inside c.if-depth-gt0.true c.whole_leaf-leaf.ensures (rw (← bound) c.in-Some-plan_split.ensures.planned)
+    c.args.leaves.now.items c.plan_split.new.leaves.items inside c.if-depth-gt0.true c.whole_leaf-leaf.ensures (rw (← bound) c.in-Some-plan_split.ensures.planned)
 
 pub plan_block-returns-in_err-best-clause-planned : goal.plan_block-returns-in_err-best-clause-planned
 plan_block-returns-in_err-best-clause-planned t c =
@@ -33,8 +34,8 @@ plan_block-returns-in_err-best-clause-planned t c =
       | plan_block-then-depth-gt0+in_default w ↦ w.in_default.ensures.planned.0
       | plan_block-else-depth-gt0 w ↦ absurd (let no : c.args.depth ≤ 0 = w.if-depth-gt0.false in omega arith)
     ] in
-    let kept : c.if-depth-gt0.leaves ≡ c.args.leaves.now =
-    elim c.if-depth-gt0.branch [ plan_block-then-depth-gt0+in_default w ↦ w.leaves-is ∙ w.in_default.ensures.planned.1 | plan_block-else-depth-gt0 w ↦ w.leaves-is ] in
+    let kept : c.if-depth-gt0.leaves.items ≡ c.args.leaves.now.items =
+    elim c.if-depth-gt0.branch [ plan_block-then-depth-gt0+in_default w ↦ ap (λ (l : ArrayVec Leaf). l.items) w.leaves-is ∙ w.in_default.ensures.planned.1 | plan_block-else-depth-gt0 w ↦ ap (λ (l : ArrayVec Leaf). l.items) w.leaves-is ] in
     let taken : c.match-leaf.leaf ≡ c.whole_leaf-leaf.result = elim c.match-leaf.branch [ plan_block-in-Some w ↦ w.leaf-is ∙ sym w.in-Some.is | plan_block-in-None w ↦ w.leaf-is ] in
     let none : c.whole_leaf-leaf.result ≡ None = sym taken ∙ c.in_err-best.was in
     let is = rw none at c.whole_leaf-leaf.ensures in
@@ -45,10 +46,10 @@ plan_block-returns-in_err-best-clause-planned t c =
 
 pub plan_block-push-requires : goal.plan_block-push-requires
 plan_block-push-requires t c =
-    let kept : c.if-depth-gt0.leaves ≡ c.args.leaves.now =
-    elim c.if-depth-gt0.branch [ plan_block-then-depth-gt0+in_default w ↦ w.leaves-is ∙ w.in_default.ensures.planned.1 | plan_block-else-depth-gt0 w ↦ w.leaves-is ] in
+    let kept : c.if-depth-gt0.leaves.items ≡ c.args.leaves.now.items =
+    elim c.if-depth-gt0.branch [ plan_block-then-depth-gt0+in_default w ↦ ap (λ (l : ArrayVec Leaf). l.items) w.leaves-is ∙ w.in_default.ensures.planned.1 | plan_block-else-depth-gt0 w ↦ ap (λ (l : ArrayVec Leaf). l.items) w.leaves-is ] in
     let some = four_some c.args.depth in
-    let same : length c.if-depth-gt0.leaves ≡ length c.args.leaves.now = ap (λ (l : List Leaf). length l) kept in
+    let same : length c.if-depth-gt0.leaves.items ≡ length c.args.leaves.now.items = ap (λ (l : List Leaf). length l) kept in
     omega arith
 
 pub plan_block-returns-clause-planned : goal.plan_block-returns-clause-planned
@@ -62,22 +63,22 @@ plan_block-returns-clause-planned t c =
       | plan_block-then-depth-gt0+in_default w ↦ w.in_default.ensures.planned.0
       | plan_block-else-depth-gt0 w ↦ absurd (let no : c.args.depth ≤ 0 = w.if-depth-gt0.false in omega arith)
     ] in
-    let kept : c.if-depth-gt0.leaves ≡ c.args.leaves.now =
-    elim c.if-depth-gt0.branch [ plan_block-then-depth-gt0+in_default w ↦ w.leaves-is ∙ w.in_default.ensures.planned.1 | plan_block-else-depth-gt0 w ↦ w.leaves-is ] in
+    let kept : c.if-depth-gt0.leaves.items ≡ c.args.leaves.now.items =
+    elim c.if-depth-gt0.branch [ plan_block-then-depth-gt0+in_default w ↦ ap (λ (l : ArrayVec Leaf). l.items) w.leaves-is ∙ w.in_default.ensures.planned.1 | plan_block-else-depth-gt0 w ↦ ap (λ (l : ArrayVec Leaf). l.items) w.leaves-is ] in
     let taken : c.match-leaf.leaf ≡ c.whole_leaf-leaf.result = elim c.match-leaf.branch [ plan_block-in-Some w ↦ w.leaf-is ∙ sym w.in-Some.is | plan_block-in-None w ↦ w.leaf-is ] in
     let found : c.whole_leaf-leaf.result ≡ Some c.in_ok-best.best = sym taken ∙ c.in_ok-best.was in
     let is = rw found at c.whole_leaf-leaf.ensures in
     let to : c.match-leaf.bound ≡ c.in_ok-best.best.cost = rw found at bound in
     let p = leaf_planned (before_of k) (picture_of k.current.now) k.current.now.size k.effort c.in_ok-best.best c.args.limit c.args.depth c.args.x c.args.y inside is (rw (← to) splits) in
-    rw p (refl, is.1, c.push.ensures ∙ ap (λ (l : List Leaf). l ++ leaf_with c.args.x c.args.y (3 + c.args.depth) c.in_ok-best.best.kind ∷ []) kept)
+    rw p (refl, is.1, c.push.ensures.items ∙ ap (λ (l : List Leaf). l ++ leaf_with c.args.x c.args.y (3 + c.args.depth) c.in_ok-best.best.kind ∷ []) kept)
 
 pub plan_block-returns-clause-few : goal.plan_block-returns-clause-few
 plan_block-returns-clause-few t c =
-    let kept : c.if-depth-gt0.leaves ≡ c.args.leaves.now =
-    elim c.if-depth-gt0.branch [ plan_block-then-depth-gt0+in_default w ↦ w.leaves-is ∙ w.in_default.ensures.planned.1 | plan_block-else-depth-gt0 w ↦ w.leaves-is ] in
+    let kept : c.if-depth-gt0.leaves.items ≡ c.args.leaves.now.items =
+    elim c.if-depth-gt0.branch [ plan_block-then-depth-gt0+in_default w ↦ ap (λ (l : ArrayVec Leaf). l.items) w.leaves-is ∙ w.in_default.ensures.planned.1 | plan_block-else-depth-gt0 w ↦ ap (λ (l : ArrayVec Leaf). l.items) w.leaves-is ] in
     let some = four_some c.args.depth in
-    let same : length c.if-depth-gt0.leaves ≡ length c.args.leaves.now = ap (λ (l : List Leaf). length l) kept in
-    let more = ap (λ (l : List Leaf). length l) c.push.ensures ∙ length-append c.if-depth-gt0.leaves _ in
+    let same : length c.if-depth-gt0.leaves.items ≡ length c.args.leaves.now.items = ap (λ (l : List Leaf). length l) kept in
+    let more = ap (λ (l : List Leaf). length l) c.push.ensures.items ∙ length-append c.if-depth-gt0.leaves.items _ in
     omega arith
 
 pub plan_split-plan_block-requires : goal.plan_split-plan_block-requires
@@ -114,6 +115,6 @@ plan_split-returns-in-None-clause-planned t c =
     let before = c.loop-quarter.invariant.cost in
     let rest = c.saturating_sub.ensures in
     let low : c.args.limit ≤ (split_of (before_of k) (picture_of k.current.now) k.current.now.size k.effort d c.args.x c.args.y).cost = omega (arith, part, cost_next, cost_all, most, before, rest) in
-    let old : List Leaf = c.args.leaves.now in
+    let old : List Leaf = c.args.leaves.now.items in
     let some : List Leaf = (parts (before_of k) (picture_of k.current.now) k.current.now.size k.effort d c.args.x c.args.y q).leaves in
-    (low, c.truncate.ensures ∙ (ap (take c.len-mark.result) (c.in-None.ensures.planned.1 ∙ c.loop-quarter.invariant.leaves) ∙ (ap (λ (n : ℕ). take n (old ++ some)) c.len-mark.ensures.value ∙ take_front old some)))
+    (low, c.truncate.ensures.items ∙ (ap (take c.len-mark.result) (c.in-None.ensures.planned.1 ∙ c.loop-quarter.invariant.leaves) ∙ (ap (λ (n : ℕ). take n (old ++ some)) c.len-mark.ensures.value ∙ take_front old some)))

@@ -13,7 +13,7 @@ decreases-plan_block l = 2 * l.depth
 abbrev pub invariant-plan_split-loop-quarter : goal.invariant-plan_split-loop-quarter
 invariant-plan_split-loop-quarter l = record {
   cost : l.cost ≡ 1 + (parts (before_of l.task) (picture_of l.task.current.now) l.task.current.now.size l.task.effort l.depth l.x l.y l.quarter).cost;
-  leaves : l.leaves ≡ l.initial.leaves ++ (parts (before_of l.task) (picture_of l.task.current.now) l.task.current.now.size l.task.effort l.depth l.x l.y l.quarter).leaves;
+  leaves : l.leaves.items ≡ l.initial.leaves.items ++ (parts (before_of l.task) (picture_of l.task.current.now) l.task.current.now.size l.task.effort l.depth l.x l.y l.quarter).leaves;
   below : 0 < l.quarter → l.cost < l.limit;
-  few : length l.leaves ≤ length l.initial.leaves + l.quarter * 4 ^ l.depth;
+  few : length l.leaves.items ≤ length l.initial.leaves.items + l.quarter * 4 ^ l.depth;
 }

@@ -1,0 +1,5 @@
+use Rattle.row_coder.proofs.Linked as linked
+use Rattle.row_coder.proofs.each_row_is_coded.Goals as goal
+
+pub returns : goal.returns
+returns c = linked.each_row_is_coded

@@ -1,0 +1,10 @@
+use Rattle.std.proofs.Common.{◌≡◌, ◌+◌, ◌*◌, length}
+use Rattle.px_plane.specs.Planes.{picture_of}
+use Rattle.row_coder.proofs.Differences.{AreRows}
+use Rattle.row_coder.proofs.predicted.subtract_block.Given as goal
+
+abbrev pub invariant-loop-y : goal.invariant-loop-y
+invariant-loop-y l = record {
+  side : l.out.log2 ≡ l.leaf.log2;
+  rows : AreRows l.n (λ x y. picture_of l.picture l.component (l.leaf.x + x) (l.leaf.y + y)) l.guess l.out.levels l.y;
+}
