@@ -32,7 +32,7 @@ no_ctus kind size source above plans row = refl
 pub one_ctu_more : (kind : SliceKind) (size : Size) (source : Source) (above : List Leaf) (plans : List (List Leaf)) (row n : ℕ)
     → first_ctus kind size source above plans row (suc n) ≡ first_ctus kind size source above plans row n ++ flagged_ctu kind size source above plans row n
 unfolding first_ctus
-one_ctu_more kind size source above plans row n = 
+one_ctu_more kind size source above plans row n =
     ap (λ (l : List ℕ). flat_map (flagged_ctu kind size source above plans row) l) (below_next n 0 n (omega arith))
     ∙ (flat_map-append (flagged_ctu kind size source above plans row) (below n) (n ∷ [])
     ∙ ap (λ (l : List Item). flat_map (flagged_ctu kind size source above plans row) (below n) ++ l) (append-nil (flagged_ctu kind size source above plans row n)))
