@@ -1,7 +1,6 @@
 -- The plans of a row, one after another.
-use Rattle.std.proofs.Common.{◌≡◌, refl, sym, ◌∙◌, ap, subst, ℕ, zero, suc, ◌+◌, ◌<◌, ◌≤◌, List, [], ◌∷◌, ◌++◌, length, map, get_or, arith, ⊎_elim}
+use Rattle.std.proofs.Common.{◌≡◌, refl, sym, subst, ℕ, zero, suc, ◌+◌, ◌<◌, List, [], ◌∷◌, ◌++◌, length, get_or, arith, ⊎_elim}
 use Rattle.std.specs.Prelude.{Option, Some, None, MatchOption, IfSome}
-use Rattle.std.specs.List.{AllByRecursion}
 use Rattle.std.proofs.lemmas.Bool.{cases_lt}
 use Rattle.arrayvec.specs.ArrayVec.{ArrayVec}
 use Rattle.h265_model.specs.declared.leaf.Leaf.{Leaf}
@@ -9,7 +8,7 @@ use Rattle.h265_model.specs.declared.leaf.SliceKind.{SliceKind}
 use Rattle.h265_model.specs.declared.leaf.SliceKind.TheVariants.{I, P}
 use Rattle.h265_model.specs.Plain.{Size, Picture}
 use Rattle.h265_model.specs.Choice.{choice}
-use Rattle.h265_model.specs.Tree.{IsLawfulTree, IsAllowed, AreAllowed}
+use Rattle.h265_model.specs.Tree.{IsLawfulTree, AreAllowed}
 use Rattle.h265_laws.proofs.ChoiceLaw.{choice_is_lawful, chosen_at, lawful_alone}
 use Rattle.row_coder.specs.Rows.{leaves_of}
 

@@ -116,7 +116,10 @@ fn planned(
 }
 
 // Does all that a job is for, and hands on its contexts after the second unit, where it has two.
-fn run_row<J: RowJob>(job: J, inherited: Option<Contexts>) -> Result<(Vec<u8>, Option<Contexts>), NoMemory>
+fn run_row<J: RowJob>(
+    job: J,
+    inherited: Option<Contexts>,
+) -> Result<(Vec<u8>, Option<Contexts>), NoMemory>
     requires { J.begun job ≡ false }
 {
     let mut job = job;
@@ -159,12 +162,20 @@ fn coded(
 fn bytes_of_rows(rt: HostRuntime) -> Result<(), Fail> {
     let now = Arc::new(rt.alloc(), pattern(rt.alloc())?)?;
     let mut prev = pattern(rt.alloc())?;
-    for (x, y, w, h, colour) in [
-        (8, 4, 4, 26, Rgb { r: 0, g: 0, b: 0 }),
-        (40, 20, 30, 3, Rgb { r: 1, g: 2, b: 3 }),
-    ] {
-        prev.fill(Rect { x, y, w, h }, colour);
-    }
+    let narrow = Rect {
+        x: 8,
+        y: 4,
+        w: 4,
+        h: 26,
+    };
+    prev.fill(narrow, Rgb { r: 0, g: 0, b: 0 });
+    let flat = Rect {
+        x: 40,
+        y: 20,
+        w: 30,
+        h: 3,
+    };
+    prev.fill(flat, Rgb { r: 1, g: 2, b: 3 });
     for (has_prev, effort, rows) in [
         (false, 0, [(6926, 1269513061), (1748, 1279659085)]),
         (false, 1, [(2334, 1929430818), (1470, 2242908748)]),

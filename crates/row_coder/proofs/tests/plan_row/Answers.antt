@@ -1,11 +1,10 @@
-use Rattle.std.proofs.Common.{◌≡◌, ℕ, ◌+◌, ◌*◌, ◌/◌, ◌<◌, List, [], ◌∷◌, ◌++◌, length, get_or, ap, sym, ◌∙◌, subst, arith, length-append, Bor}
+use Rattle.std.proofs.Common.{◌≡◌, ℕ, ◌+◌, ◌*◌, ◌/◌, List, [], ◌∷◌, length, ap, ◌∙◌, subst, arith, length-append, Bor}
 use Rattle.arrayvec.specs.ArrayVec.{ArrayVec}
 use Rattle.h265_model.specs.declared.leaf.Leaf.{Leaf}
 use Rattle.h265_model.specs.Plain.{Size, ctus}
 use Rattle.h265_model.specs.Tree.{IsLawfulTree, AreAllowed}
 use Rattle.px_plane.specs.Planes.{Planes, picture_of}
-use Rattle.row_coder.specs.Rows.{leaves_of}
-use Rattle.row_coder.proofs.RowSteps.{length_leaves, in_tiles, in_picture}
+use Rattle.row_coder.proofs.RowSteps.{length_leaves}
 use Rattle.row_coder.proofs.Planned.{each_more, lawful, allowed}
 use Rattle.row_coder.proofs.tests.plan_row.Goals as goal
 
