@@ -1,0 +1,4 @@
+pub mod Authors
+pub mod Calls
+pub mod Fresh
+pub mod Turning
