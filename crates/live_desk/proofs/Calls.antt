@@ -40,6 +40,7 @@ has_played c w after s table at is t less same gives place lawful =
     let many : length (indexes_of after.seen c.client) ≡ c.next + 1 = ap (λ (h : List Entry). length (indexes_of h c.client)) had.seen ∙ count_own s.history c.client c.next ∙ ap (λ (n : ℕ). n + 1) own in
     record {
       base = s.history;
+      left = less;
       same = record { table = same; client = refl; lines = refl };
       turn = had;
       place = place;
@@ -50,9 +51,10 @@ has_played c w after s table at is t less same gives place lawful =
       runs = refl;
     }
 
-pub has_stopped : (c : Client) (w after : Knowledge) (s : State) (table : TableId) → HasTurn c.knows s w → table ≡ c.table → after ≡ gives_back w s.history s.mark → is_cut (next_line s c.client c.next) ≡ true → HasStopped c (client_with c table after c.next true)
-has_stopped c w after s table t same gives cut = record {
+pub has_stopped : (c : Client) (w after : Knowledge) (s : State) (table : TableId) → HasTurn c.knows s w → c.next < c.lines → table ≡ c.table → after ≡ gives_back w s.history s.mark → is_cut (next_line s c.client c.next) ≡ true → HasStopped c (client_with c table after c.next true)
+has_stopped c w after s table t less same gives cut = record {
   base = s.history;
+  left = less;
   same = record { table = same; client = refl; lines = refl };
   turn = back_given c.knows w after s s.mark t gives (λ m. m);
   cut = ap (λ (k : Setting). is_cut (accepted_line k.scripts c.client c.next)) (sym t.setting) ∙ cut;
@@ -79,6 +81,7 @@ last_author v is = omega (arith, is)
 has_job : (p q : Standing) (w : Knowledge) (s : State) (job : _) → IsRecorder p → HasTurn p.knows s w → q.table ≡ p.table → HasGivenJob w s q.knows → job ≡ job_of s.setting s.history (takes s.history) → HasTaken p q job
 has_job p q w s job is t same gave made = record {
   base = s.history;
+  waited = subst (λ (k : Setting). takes s.history < cuts k.scripts s.history) t.setting gave.waits;
   table = same;
   turn = entry_given p.knows w q.knows s (entry.Take (takes s.history)) t gave.gives;
   lawful = subst (IsLawful p.knows.setting.scripts) (sym (entry_given p.knows w q.knows s (entry.Take (takes s.history)) t gave.gives).seen) (subst (λ (k : Setting). IsLawful k.scripts (s.history ++ entry.Take (takes s.history) ∷ [])) t.setting gave.lawful);

@@ -45,13 +45,13 @@ fresh_is_client p n lines is = record {
   next = omega arith;
 }
 
-slice_last : {X : Type 0} (xs : List X) (x : X) (n : ℕ) → length xs ≡ n → slice_get (xs ++ x ∷ []) n ≡ Some x
+pub slice_last : {X : Type 0} (xs : List X) (x : X) (n : ℕ) → length xs ≡ n → slice_get (xs ++ x ∷ []) n ≡ Some x
 slice_last [] x zero is = refl
 slice_last [] x (suc n) is = absurd (omega arith)
 slice_last (y ∷ xs) x zero is = absurd (omega arith)
 slice_last (y ∷ xs) x (suc n) is = slice_last xs x n (omega arith)
 
-slice_before : {X : Type 0} (xs : List X) (x : X) (i : ℕ) → i < length xs → slice_get (xs ++ x ∷ []) i ≡ slice_get xs i
+pub slice_before : {X : Type 0} (xs : List X) (x : X) (i : ℕ) → i < length xs → slice_get (xs ++ x ∷ []) i ≡ slice_get xs i
 slice_before [] x i less = absurd (omega arith)
 slice_before (y ∷ xs) x zero less = refl
 slice_before (y ∷ xs) x (suc i) less = slice_before xs x i (omega arith)

@@ -2,3 +2,4 @@ pub mod Authors
 pub mod Calls
 pub mod Fresh
 pub mod Turning
+pub mod Trial

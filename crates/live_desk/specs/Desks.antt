@@ -31,6 +31,7 @@ pub record IsSameClient (old new : Client) : Type 0 where
 -- that one, each once.
 pub record HasPlayed (old new : Client) (at : ℕ) : Type 0 where
   pub base : List Entry
+  pub left : old.next < old.lines
   pub same : IsSameClient old new
   pub turn : HadTurn old.knows base (entry.Line old.client old.next ∷ []) new.knows
   pub place : at ≡ length base
@@ -43,6 +44,7 @@ pub record HasPlayed (old new : Client) (at : ℕ) : Type 0 where
 -- The turn was taken and given back with no new entry, for want of memory, at a cut.
 pub record HasStopped (old new : Client) : Type 0 where
   pub base : List Entry
+  pub left : old.next < old.lines
   pub same : IsSameClient old new
   pub turn : HadTurn old.knows base [] new.knows
   pub cut : is_cut (accepted_line old.knows.setting.scripts old.client old.next) ≡ true
@@ -52,6 +54,7 @@ pub record HasStopped (old new : Client) : Type 0 where
 
 -- The turn wasn't free: these words were found, and nothing else changed.
 pub record WasBusy (old new : Client) (loaded found : ℕ) : Type 0 where
+  pub left : old.next < old.lines
   pub same : IsSameClient old new
   pub words : IsBusy old.knows loaded found new.knows
   pub next : new.next ≡ old.next
@@ -69,6 +72,7 @@ pub record HasMarked (old new : Client) : Type 0 where
 -- The first cut picture that wasn't taken at this turn was taken.
 pub record HasTaken (old new : Standing) (job : Job) : Type 0 where
   pub base : List Entry
+  pub waited : takes base < cuts old.knows.setting.scripts base
   pub table : new.table ≡ old.table
   pub turn : HadTurn old.knows base (entry.Take (takes base) ∷ []) new.knows
   pub lawful : IsLawful old.knows.setting.scripts new.knows.seen

@@ -71,7 +71,6 @@ impl Desk {
     pub fn play(&self, rt: &impl Wait, pass: &mut ClientPass) -> Result<Accepted, PlayError>
         requires desk { pass.old.table ≡ self.now }
         ensures played { IfOk result (λ a. HasPlayed pass.old pass.new a.at) }
-        ensures within { IfOk result (λ a. pass.old.next < pass.old.lines) }
         ensures refused { IfErr result (IsRefused pass.old pass.new) }
     {
         if pass.next >= pass.lines {
@@ -99,7 +98,6 @@ impl Desk {
     pub fn try_play(&self, pass: &mut ClientPass) -> Result<Accepted, TryPlayError>
         requires desk { pass.old.table ≡ self.now }
         ensures played { IfOk result (λ a. HasPlayed pass.old pass.new a.at) }
-        ensures within { IfOk result (λ a. pass.old.next < pass.old.lines) }
         ensures refused { IfErr result (IsTryRefused pass.old pass.new) }
     {
         if pass.next >= pass.lines {

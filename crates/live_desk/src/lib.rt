@@ -11,3 +11,6 @@ pub use answers::{Accepted, PlayError, Taken, TryPlayError};
 pub use desk::{Desk, Note, each_desk_can_be_shared};
 pub use desk_state::{DeskState, Entry, Job, NoMemory, Scripts, Size};
 pub use passes::{ClientPass, RecorderPass};
+
+#[cfg(test)]
+mod tests;

@@ -58,8 +58,8 @@ pub(crate) fn take_one(
 {
     let mut state = state;
     match state.take_job() {
-        Some((entry, job)) => {
-            turn.leave_with_entry(pass, state, entry);
+        Some((taking, job)) => {
+            turn.leave_with_entry(pass, state, taking);
             Taken::Job(job)
         }
         None => {

@@ -28,4 +28,4 @@ returns-in-Err-clause-refused g c =
     let old : Client = record { table = c.pass.inside.pass.table; knows = c.pass.inside.pass.knows; client = c.pass.inside.client; next = c.pass.inside.next; lines = c.pass.inside.lines; stopped = c.pass.inside.stopped } in
     let turn = waited old.knows c.enter-state.new.pass.knows c.enter-state.result c.enter-state.ensures.entered in
     subst (λ (o : Client). HasStopped o (client_with old c.accept_line.new.pass.table c.accept_line.new.pass.knows old.next true)) c.pass.view_is
-    (has_stopped old c.enter-state.new.pass.knows c.accept_line.new.pass.knows c.enter-state.result c.accept_line.new.pass.table turn (c.in-Err.ensures.turn ∙ c.enter-state.ensures.turn) c.in-Err.ensures.err c.in-Err.ensures.cut)
+    (has_stopped old c.enter-state.new.pass.knows c.accept_line.new.pass.knows c.enter-state.result c.accept_line.new.pass.table turn c.if-pass.false (c.in-Err.ensures.turn ∙ c.enter-state.ensures.turn) c.in-Err.ensures.err c.in-Err.ensures.cut)

@@ -28,4 +28,4 @@ returns-in-Err-accept_line-clause-refused c =
     let old : Client = record { table = c.pass.inside.pass.table; knows = c.pass.inside.pass.knows; client = c.pass.inside.client; next = c.pass.inside.next; lines = c.pass.inside.lines; stopped = c.pass.inside.stopped } in
     let turn = entered old.knows c.try_enter.new.pass.knows c.in-Ok.state c.in-Ok.ensures.ok in
     subst (λ (o : Client). HasStopped o (client_with old c.accept_line.new.pass.table c.accept_line.new.pass.knows old.next true)) c.pass.view_is
-    (has_stopped old c.try_enter.new.pass.knows c.accept_line.new.pass.knows c.in-Ok.state c.accept_line.new.pass.table turn (c.in-Err-accept_line.ensures.turn ∙ c.in-Ok.ensures.turn) c.in-Err-accept_line.ensures.err c.in-Err-accept_line.ensures.cut)
+    (has_stopped old c.try_enter.new.pass.knows c.accept_line.new.pass.knows c.in-Ok.state c.accept_line.new.pass.table turn c.if-pass.false (c.in-Err-accept_line.ensures.turn ∙ c.in-Ok.ensures.turn) c.in-Err-accept_line.ensures.err c.in-Err-accept_line.ensures.cut)
