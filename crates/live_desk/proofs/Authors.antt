@@ -1,6 +1,6 @@
 -- Entries by their authors are lines of clients, and takes.
-use Rattle.std.proofs.Common.{◌≡◌, ◌≢◌, ℕ, zero, suc, ◌+◌, ◌-◌, ◌<◌, ◌≤◌, Bool, true, false, if◌then◌else◌, List, [], ◌∷◌, ◌++◌, length, refl, sym, ap, subst, ◌∙◌, arith, eq-eqb}
-use Rattle.std.specs.Prelude.{count_by, ◌==◌}
+use Rattle.std.proofs.Common.{◌≡◌, ℕ, ◌+◌, ◌-◌, ◌<◌, Bool, true, false, if◌then◌else◌, List, [], ◌∷◌, length, refl, sym, ap, ◌∙◌, arith, eq-eqb}
+use Rattle.std.specs.Prelude.{◌==◌}
 use Rattle.std.specs.List.{range_with_len}
 use Rattle.std.proofs.lemmas.Bool.{ne_eqb}
 use Rattle.std.proofs.lemmas.List.Sums.{sum_by-cons}
@@ -10,7 +10,6 @@ use Rattle.h265_model.specs.declared.entry.Entry.TheVariants.{Line, Take}
 use Rattle.h265_model.specs.declared.line.Line as line
 use Rattle.h265_model.specs.Turn.{author, entries_by}
 use Rattle.h265_model.specs.Histories.{IsLawful, indexes_of, take_numbers, takes}
-use Rattle.desk_state.proofs.Entries.{count_own}
 use Rattle.desk_state.proofs.Totals.{IsWithin, rest_within, all_within}
 
 by_one : (passes a : ℕ) (e : Entry) (h : List Entry) → entries_by passes a (e ∷ h) ≡ (if author passes e == a then 1 else 0) + entries_by passes a h

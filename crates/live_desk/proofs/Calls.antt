@@ -1,6 +1,5 @@
 -- What the desk theorem says of each call, from its turn.
-use Rattle.std.proofs.Common.{◌≡◌, ℕ, ◌+◌, ◌-◌, ◌<◌, ◌≤◌, Bool, true, false, List, [], ◌∷◌, ◌++◌, length, Some, refl, sym, ap, subst, ◌∙◌, arith}
-use Rattle.std.proofs.lemmas.List.{append-nil}
+use Rattle.std.proofs.Common.{◌≡◌, ℕ, ◌+◌, ◌-◌, ◌<◌, Bool, true, false, List, [], ◌∷◌, ◌++◌, length, Some, refl, sym, ap, subst, ◌∙◌, arith}
 use Rattle.atomic_table.specs.Seated.{TableId}
 use Rattle.h265_model.specs.declared.entry.Entry.{Entry}
 use Rattle.h265_model.specs.declared.entry.Entry.TheVariants as entry
@@ -20,12 +19,12 @@ use Rattle.desk_state.proofs.Entries.{count_own}
 use Rattle.live_desk.specs.declared.answers.Taken.{Taken}
 use Rattle.live_desk.specs.declared.answers.Taken.TheVariants as taken
 use Rattle.live_desk.specs.Passes.{Client, IsClient, IsRecorder, passes_of}
-use Rattle.live_desk.specs.Turned.{HasTurn, HadTurn}
+use Rattle.live_desk.specs.Turned.{HasTurn}
 use Rattle.live_desk.specs.Held.{HasGivenJob, HasGivenBack, HasGiven}
 use Rattle.live_desk.specs.Desks.{HasPlayed, HasStopped, HasMarked, HasTaken, HasLooked, HasClosed}
 use Rattle.live_desk.specs.Answers.{HasAnswered}
 use Rattle.live_desk.proofs.Authors.{lines_by, takes_by, own_range}
-use Rattle.live_desk.proofs.Turning.{setting_of, history_of, mark_of, entry_given, entry_raised, entry_made, back_given, back_raised, back_made, held_made, next_is}
+use Rattle.live_desk.proofs.Turning.{setting_of, history_of, mark_of, entry_given, entry_raised, entry_made, back_given, back_raised, back_made, next_is}
 
 -- a client's pass with these parts
 abbrev pub client_with : Client → TableId → Knowledge → ℕ → Bool → Client

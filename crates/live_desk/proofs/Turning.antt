@@ -1,20 +1,17 @@
 -- From the clauses of a turn to what a pass knows after it.
-use Rattle.std.proofs.Common.{◌≡◌, ℕ, ◌+◌, ◌-◌, ◌<◌, ◌≤◌, Bool, true, false, ◌||◌, ◌&&◌, not, List, [], ◌∷◌, ◌++◌, length, Some, refl, sym, ap, subst, ◌∙◌, arith}
-use Rattle.std.specs.List.{range_with_len}
+use Rattle.std.proofs.Common.{◌≡◌, ℕ, ◌+◌, ◌<◌, Bool, true, false, ◌||◌, ◌&&◌, not, List, [], ◌∷◌, ◌++◌, Some, refl, sym, ap, subst, ◌∙◌, arith}
 use Rattle.std.proofs.lemmas.List.{append-nil}
 use Rattle.h265_model.specs.declared.entry.Entry.{Entry}
-use Rattle.h265_model.specs.declared.entry.Entry.TheVariants as entry
 use Rattle.h265_model.specs.Setting.{Setting}
 use Rattle.h265_model.specs.Turn.{State, author, entries_by}
-use Rattle.h265_model.specs.Histories.{IsLawful, indexes_of, script_length}
-use Rattle.turn_lock.specs.Turns.{Begins, HasEntered, HasWaited, HasJoined, IsSameButWords, Owns, finds, made_by, one_more, gives_back, gives_entry, OwnExact}
+use Rattle.h265_model.specs.Histories.{script_length}
+use Rattle.turn_lock.specs.Turns.{Begins, HasEntered, HasWaited, IsSameButWords, Owns, finds, made_by, one_more, gives_back, gives_entry}
 use Rattle.turn_lock.specs.declared.knowledge.Knowledge.{Knowledge}
-use Rattle.turn_lock.proofs.Histories.{made_by-here, one_more-same}
+use Rattle.turn_lock.proofs.Histories.{made_by-here}
 use Rattle.desk_state.specs.Standing.{IsNext}
-use Rattle.desk_state.proofs.Entries.{count_own}
-use Rattle.live_desk.specs.Passes.{Client, IsClient, passes_of}
+use Rattle.live_desk.specs.Passes.{Client, IsClient}
 use Rattle.live_desk.specs.Turned.{HasTurn, HadTurn}
-use Rattle.live_desk.proofs.Authors.{lines_by, own_range}
+use Rattle.live_desk.proofs.Authors.{lines_by}
 
 abbrev pub setting_of : State → Setting
 setting_of s = s.setting

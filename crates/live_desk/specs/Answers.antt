@@ -1,7 +1,6 @@
 -- The answers of a desk's calls.
-use Rattle.std.specs.Prelude.{◌≡◌, ◌≤◌, Result, Ok, Err, true, false}
+use Rattle.std.specs.Prelude.{◌≡◌, ◌≤◌, true, false}
 use Rattle.turn_lock.specs.Standing.{Standing}
-use Rattle.live_desk.specs.declared.answers.Accepted.{Accepted}
 use Rattle.live_desk.specs.declared.answers.PlayError.{PlayError}
 use Rattle.live_desk.specs.declared.answers.PlayError.TheVariants as play
 use Rattle.live_desk.specs.declared.answers.TryPlayError.{TryPlayError}

@@ -1,5 +1,5 @@
 -- Passes as contracts see them.
-use Rattle.std.specs.Prelude.{◌≡◌, ℕ, ◌+◌, ◌<◌, ◌≤◌, List, [], ◌∷◌, length, Bool, false}
+use Rattle.std.specs.Prelude.{◌≡◌, ℕ, ◌+◌, ◌<◌, ◌≤◌, [], ◌∷◌, length, Bool, false}
 use Rattle.atomic_table.specs.Seated.{TableId}
 use Rattle.h265_model.specs.Setting.{Setting}
 use Rattle.h265_model.specs.Histories.{script_length}

@@ -1,8 +1,8 @@
 -- What a pass knows after one turn.
-use Rattle.std.specs.Prelude.{◌≡◌, ℕ, ◌+◌, List, [], ◌∷◌, ◌++◌, length, Bool, true}
+use Rattle.std.specs.Prelude.{◌≡◌, ◌+◌, List, ◌++◌, true}
 use Rattle.h265_model.specs.declared.entry.Entry.{Entry}
 use Rattle.h265_model.specs.Turn.{State}
-use Rattle.turn_lock.specs.Turns.{Begins, OwnExact, IsSameButWords, finds, holding}
+use Rattle.turn_lock.specs.Turns.{Begins, OwnExact, IsSameButWords, holding}
 use Rattle.turn_lock.specs.declared.knowledge.Knowledge.{Knowledge}
 
 -- the setting, the number of passes and the share stay

@@ -1,6 +1,4 @@
-use Rattle.std.proofs.Common.{◌≡◌, ℕ, ◌+◌, ◌<◌, ◌≤◌, ◌∷◌, ◌++◌, [], List, refl, ap, sym, subst, ◌∙◌, length, length-append, arith, rules}
-use Rattle.std.proofs.lemmas.List.{append-nil}
-use Rattle.turn_lock.specs.Standing.{Standing}
+use Rattle.std.proofs.Common.{◌≡◌, ℕ, ◌∷◌, ◌++◌, refl, ap, sym, subst, ◌∙◌, length, length-append, arith}
 use Rattle.live_desk.specs.Opening.{AreClients}
 use Rattle.live_desk.proofs.Fresh.{next_within, next_fresh, fresh_is_client, one_client_more, none_yet, split_more}
 use Rattle.live_desk.proofs.opening.hand_out.Goals as goal

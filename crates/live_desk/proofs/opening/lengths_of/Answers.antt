@@ -1,4 +1,4 @@
-use Rattle.std.proofs.Common.{◌≡◌, ◌∷◌, ◌++◌, [], ap, sym, ◌∙◌, length, map, take, arith}
+use Rattle.std.proofs.Common.{◌∷◌, ◌++◌, [], ap, ◌∙◌, length, map, arith}
 use Rattle.std.proofs.lemmas.List.{take_all}
 use Rattle.desk_state.proofs.Lookups.{read_at}
 use Rattle.live_desk.proofs.Fresh.{lengths_more}

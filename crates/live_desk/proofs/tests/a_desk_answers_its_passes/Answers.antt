@@ -1,8 +1,8 @@
-use Rattle.std.proofs.Common.{◌≡◌, ◌+◌, ◌*◌, ◌^◌, ◌≤◌, ap, ◌∙◌, arith}
+use Rattle.std.proofs.Common.{ap, ◌∙◌, arith}
 use Rattle.h265_model.specs.Setting.{Setting}
 use Rattle.turn_lock.specs.Standing.{Standing}
 use Rattle.live_desk.specs.Passes.{Client}
-use Rattle.live_desk.proofs.Trial.{IsReady, ready_last, ready_before, ready_play, ready_try, same_take}
+use Rattle.live_desk.proofs.Trial.{ready_last, ready_before, ready_play, ready_try, same_take}
 use Rattle.live_desk.proofs.tests.a_desk_answers_its_passes.Goals as goal
 
 pub play-requires : goal.play-requires

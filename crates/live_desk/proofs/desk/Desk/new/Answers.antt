@@ -1,11 +1,10 @@
-use Rattle.std.proofs.Common.{◌≡◌, ◌+◌, ◌++◌, ◌∷◌, [], ap, sym, subst, ◌∙◌, length, arith, rules}
+use Rattle.std.proofs.Common.{◌≡◌, ◌+◌, ◌++◌, ◌∷◌, [], ap, subst, ◌∙◌, length}
 use Rattle.std.specs.Prelude.{option_to_list}
 use Rattle.std.proofs.lemmas.List.{length-map}
 use Rattle.h265_model.specs.Setting.{Setting}
-use Rattle.turn_lock.specs.Standing.{Standing, IsHandedOut}
-use Rattle.live_desk.specs.Opening.{AreFreshPasses, AreClients}
+use Rattle.turn_lock.specs.Standing.{IsHandedOut}
 use Rattle.live_desk.specs.Passes.{passes_of}
-use Rattle.live_desk.proofs.Fresh.{AreAll, all_are, fresh_passes, is_recorder, is_opened}
+use Rattle.live_desk.proofs.Fresh.{all_are, fresh_passes, is_recorder, is_opened}
 use Rattle.live_desk.proofs.desk.Desk.new.Goals as goal
 
 pub hand_out-requires-clause-fresh : goal.hand_out-requires-clause-fresh
