@@ -57,10 +57,10 @@ count-cons : (p : line.Line → Bool) (x : line.Line) (xs : List line.Line) → 
 count-cons p x xs = sum_by-cons (λ y. if p y then 1 else 0) x xs
 
 -- no entry is of a client past the last
-abbrev IsWithin : ℕ → List Entry → Type 0
+abbrev pub IsWithin : ℕ → List Entry → Type 0
 IsWithin n h = (client : ℕ) → n ≤ client → indexes_of h client ≡ []
 
-rest_within : (n c i : ℕ) (h : List Entry) → IsWithin n (Line c i ∷ h) → (c < n) × IsWithin n h
+pub rest_within : (n c i : ℕ) (h : List Entry) → IsWithin n (Line c i ∷ h) → (c < n) × IsWithin n h
 unfolding indexes_of
 rest_within n c i h is = (low, rest)
   where
@@ -114,7 +114,7 @@ scripts_total p scripts (suc n) le =
     ap (λ (k : ℕ). k + count_by p (slice_index_or scripts n [])) (scripts_total p scripts n (omega arith))
     ∙ sym (sum_by_more (count_by p) scripts n [] (omega arith)) ∙ ap (λ (k : ℕ). sum_by (count_by p) (take k scripts)) (one_more n)
 
-all_within : (scripts : Scripts) (h : List Entry) → BeginsMerge scripts h → IsWithin (length scripts) h
+pub all_within : (scripts : Scripts) (h : List Entry) → BeginsMerge scripts h → IsWithin (length scripts) h
 all_within scripts h is client le =
     let k = is client in
     let none : slice_index_or scripts client [] ≡ [] = get_or_past scripts client [] le in

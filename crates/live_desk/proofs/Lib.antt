@@ -1,0 +1,5 @@
+pub mod Authors
+pub mod Calls
+pub mod Fresh
+pub mod Turning
+pub mod Trial
