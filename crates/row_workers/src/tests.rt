@@ -1,0 +1,116 @@
+//! Rows whose contexts take one step each.
+ghost use Rattle.std.specs.Prelude.{◌≡◌, ◌+◌, [], ◌∷◌, true, false, get_or};
+ghost use Rattle.std.specs.Option.{option_map_or};
+ghost use Rattle.h265_model.specs.Contexts.{start, step};
+ghost use Rattle.h265_model.specs.declared.leaf.SliceKind.TheVariants.{I};
+
+use crate::{Contexts, NoMemory, RowJob, rows_alone};
+use h265_model::SliceKind;
+use std::alloc::Global;
+use std::test::Fail;
+
+// A job of a row that hands on its contexts after a step of the first, and has that context's state for its only byte.
+#[derive(Drop)]
+struct Steps {
+    alloc: Global,
+    // How many units it has, less 1.
+    more: u8,
+    begun: bool,
+    inherited: Option<Contexts>,
+    coded: u32,
+}
+
+impl RowJob for Steps {
+    ghost plan = { λ j. record {
+      width = j.more + 1;
+      second = λ inherited. step (option_map_or (λ contexts. contexts) inherited (start I)) 0 true;
+      bytes = λ inherited. get_or (option_map_or (λ contexts. contexts) inherited (start I)) 0 0 ∷ [];
+    } };
+
+    ghost begun = { λ j. j.begun };
+
+    ghost inherits = { λ j. j.inherited };
+
+    ghost coded = { λ j. j.coded };
+
+    fn width(&self) -> u32 {
+        self.more as u32 + 1
+    }
+
+    fn begin(&mut self, inherited: Option<Contexts>) {
+        self.begun = true;
+        self.inherited = inherited;
+        self.coded = 0;
+    }
+
+    fn code_next(&mut self) -> Result<(), NoMemory> {
+        self.coded += 1;
+        Ok(())
+    }
+
+    fn contexts(&self) -> Contexts {
+        let mut contexts = self.first();
+        contexts.step(0, true);
+        contexts
+    }
+
+    fn finish(self) -> Result<Vec<u8>, NoMemory> {
+        Ok([self.first().get(0)].to_vec(self.alloc)?)
+    }
+}
+
+impl Steps {
+    // The contexts that it begins with.
+    fn first(&self) -> Contexts
+        ensures { result ≡ option_map_or (λ contexts. contexts) self.now.inherited (start I) }
+    {
+        match self.inherited {
+            Some(contexts) => contexts,
+            None => Contexts::start(SliceKind::I),
+        }
+    }
+}
+
+// The units of each row, and the bytes of 3 rows. Context 0 starts with pStateIdx 0 and valMps 1 (9.3.2.2), and a bin 1 steps it to 1, 2 and so on.
+const CASES: [(u8, [u8; 3]); 4] = [
+    (1, [1, 1, 1]),
+    (2, [1, 3, 5]),
+    (3, [1, 3, 5]),
+    (200, [1, 3, 5]),
+];
+
+// A job that wasn't begun.
+fn job(alloc: Global, more: u8) -> Steps
+    ensures more { result.more ≡ more }
+    ensures fresh { result.begun ≡ false }
+{
+    Steps {
+        alloc,
+        more,
+        begun: false,
+        inherited: None,
+        coded: 0,
+    }
+}
+
+// The bytes of three rows of so many units, and one more.
+fn three_rows(alloc: Global, more: u8) -> Result<Vec<Vec<u8>>, NoMemory> {
+    let mut jobs = Vec::new(alloc);
+    jobs.push(job(alloc, more))?;
+    jobs.push(job(alloc, more))?;
+    jobs.push(job(alloc, more))?;
+    rows_alone(alloc, jobs)
+}
+
+#[test]
+fn hands_on_contexts_after_the_second_unit(rt: HostRuntime) -> Result<(), Fail> {
+    for (width, want) in CASES {
+        assert!(rt; width > 0);
+        let rows = three_rows(rt.alloc(), width - 1)?;
+        assert_eq!(rt; rows.len(), 3);
+        for i in 0..3 {
+            assert_eq!(rt; rows[i].as_slice(), &want[i..i + 1]);
+        }
+    }
+    Ok(())
+}
