@@ -1,5 +1,7 @@
 pub mod Differences
+pub mod Kept
 pub mod Linked
 pub mod RowSteps
 pub mod Sourced
+pub mod Starts
 pub mod Walks

@@ -24,7 +24,7 @@ use Rattle.row_core.specs.Plan.{Plan}
 use Rattle.row_coder.specs.Sources.{picture_source}
 use Rattle.row_coder.specs.Rows.{Row, first_ctus, flagged_ctu, whole_row, first_contexts, plan_of}
 use Rattle.row_coder.specs.Laws.{row_leaves, leaves_above, IsRowOf, ArePictureLeaves, IsCodedRow, EachRowIsCoded, EachJobIsCoded}
-use Rattle.row_coder.proofs.RowSteps.{in_picture, source_is}
+use Rattle.row_coder.proofs.RowSteps.{in_picture}
 use Rattle.row_coder.proofs.Walks.{Agree, IsBefore, agree_far, ctu_same, unit_before}
 
 joined_append : (a b : List (List Leaf)) → joined (a ++ b) ≡ joined a ++ joined b
@@ -74,7 +74,7 @@ module _ (size : Size) (leaves : List (List Leaf)) where
         let y : ctu_y size ctu ≡ row * 32 = ap (λ (k : ℕ). k * 32) (row_of row i few) in
         ap (λ (l : List Item). l ++ terminate_bin (is_last size ctu) ∷ [])
         (ap (λ (l : List Leaf). ctu_items kind size (picture_source size picture) (leaves_above size leaves row ++ joined (take i (row_leaves size leaves row))) l ctu) (unit_is row i few)
-        ∙ ctu_same kind size picture _ _ (get_or leaves ctu []) ctu (lawful.tree ctu inside) (subst (λ (k : ℕ). Agree k _ _) (sym y) (agrees row i less (omega arith))))
+        ∙ ctu_same kind size picture (leaves_above size leaves row ++ joined (take i (row_leaves size leaves row))) (joined (take ctu leaves)) (get_or leaves ctu []) ctu (lawful.tree ctu inside) (subst (λ (k : ℕ). Agree k (leaves_above size leaves row ++ joined (take i (row_leaves size leaves row))) (joined (take ctu leaves))) (sym y) (agrees row i less (omega arith))))
 
     same_units : (f g : ℕ → List Item) (a n : ℕ) → ((i : ℕ) → i < a + n → f i ≡ g i) → flat_map f (range_with_len a n) ≡ flat_map g (range_with_len a n)
     same_units f g a zero h = refl

@@ -1,4 +1,4 @@
-use Rattle.std.proofs.Common.{◌≡◌, sym, ◌∙◌, ap, ◌&&◌, Bool, false, true}
+use Rattle.std.proofs.Common.{◌≡◌, sym, ◌∙◌, ap, ◌&&◌, Bool, false, true, rules}
 use Rattle.h265_model.specs.Plain.{Size}
 use Rattle.px_plane.specs.Planes.{picture_of}
 use Rattle.row_coder.specs.Sources.{is_placed, is_predicted}
@@ -15,4 +15,4 @@ pub returns-in-None : goal.returns-in-None
 returns-in-None c =
     let size : c.size.result ≡ c.args.picture.now.size = c.size.ensures.value in
     levels_none c.args.picture.now.size (picture_of c.args.picture.now) c.args.leaf c.args.component _ c.zero.result
-    (rw (← size) (c.in-None.ensures.none tt)) (c.log2-log2.ensures.value ∙ c.requires.side) c.zero.ensures
+    (rw (← size) (c.in-None.ensures.none (search rules))) (c.log2-log2.ensures.value ∙ c.requires.side) c.zero.ensures
