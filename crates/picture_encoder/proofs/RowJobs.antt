@@ -7,12 +7,12 @@ use Rattle.std.proofs.lemmas.List.FromFn.{length-map-range_with_len, get_or-map-
 use Rattle.h265_model.specs.declared.leaf.Leaf.{Leaf}
 use Rattle.h265_model.specs.declared.leaf.SliceKind.{SliceKind}
 use Rattle.h265_model.specs.Plain.{Size, ctus, below, joined}
+use Rattle.h265_model.specs.NalUnits.{escape}
 use Rattle.h265_model.specs.Slice.{IsSlice, row_code}
 use Rattle.h265_model.specs.Tree.{source_of}
 use Rattle.h265_model.specs.Wave.{Jobs, inherited, row_bytes}
 use Rattle.h265_laws.proofs.SubstreamLaw.{each_row_is_substream}
 use Rattle.px_plane.specs.Planes.{Planes, picture_of}
-use Rattle.arrayvec.specs.ArrayVec.{ArrayVec}
 use Rattle.row_core.specs.Plan.{Plan}
 use Rattle.row_coder.specs.Rows.{Row, plan_of, leaves_of, AreTrees, AreAbove}
 use Rattle.row_coder.specs.Laws.{row_leaves, leaves_above, IsRowOf, ArePictureLeaves, IsCodedRow}
@@ -178,3 +178,29 @@ are_substreams f rows kind planes leaves is narrow e = λ k d less.
     let at : f (get_or rows k d) ≡ code k =
     sym (get_or-map f rows k d [] less) ∙ (ap (λ (l : List (List ℕ)). get_or l k []) e ∙ get_or-map-range_with_len code 0 (ctus planes.size.h) k k [] (omega arith) (omega arith)) in
     subst IsSubstream (sym at) (each_row_is_substream kind planes.size (source_of planes.size (picture_of planes)) leaves k is narrow (omega arith))
+
+-- ---- a picture's rows
+
+module _ (t : Task) (jobs : List Row) (e : jobs ≡ map (row_of_task t) (below (ctus (size_of_task t).h))) where
+  pub jobs_long : length jobs ≡ ctus (size_of_task t).h
+  jobs_long = ap length e ∙ length-map-range_with_len (row_of_task t) 0 (ctus (size_of_task t).h)
+
+  pub jobs_fresh : All (λ job. job.begun ≡ false) jobs
+  jobs_fresh = λ k d less.
+      let at : get_or jobs k d ≡ row_of_task t k =
+      ap (λ (l : List Row). get_or l k d) e ∙ get_or-map-range_with_len (row_of_task t) 0 (ctus (size_of_task t).h) k k d (let long = jobs_long in omega arith) (omega arith) in
+      ap (λ (r : Row). r.begun) at
+
+  pub jobs_width : HaveWidth (ctus (size_of_task t).w) (map plan_of jobs)
+  jobs_width = subst (λ (l : List Row). HaveWidth (ctus (size_of_task t).w) (map plan_of l)) (sym e) (have_width t)
+
+  pub jobs_give : (bytes : List (List ℕ)) → 0 < ctus (size_of_task t).w → ((width : ℕ) → HaveWidth width (map plan_of jobs) → bytes ≡ rows_of width (map plan_of jobs))
+      → bytes ≡ map (code_of_task t) (below (ctus (size_of_task t).h))
+  jobs_give bytes some known =
+      known (ctus (size_of_task t).w) jobs_width ∙ (ap (λ (l : List Row). rows_of (ctus (size_of_task t).w) (map plan_of l)) e ∙ task_rows t some)
+
+pub rows_long : {X : Type 0} (f : X → List ℕ) (rows : List X) (code : ℕ → List ℕ) (n : ℕ) → map f rows ≡ map code (below n) → length rows ≡ n
+rows_long f rows code n e = sym (length-map rows f) ∙ (ap length e ∙ length-map-range_with_len code 0 n)
+
+pub escaped_are : {X : Type 0} (f : X → List ℕ) (rows : List X) (code : ℕ → List ℕ) (n : ℕ) → map f rows ≡ map code (below n) → map (λ row. escape (f row)) rows ≡ map (λ row. escape (code row)) (below n)
+escaped_are f rows code n e = sym (map_twice f escape rows) ∙ (ap (λ (l : List (List ℕ)). map escape l) e ∙ map_twice code escape (below n))

@@ -1,8 +1,9 @@
 //! The rows of a picture's coding tree units.
-ghost use Rattle.std.specs.Prelude.{◌≡◌, ◌<◌, ◌≤◌, ◌-◌, map, IfOk, length};
+ghost use Rattle.std.specs.Prelude.{◌≡◌, ◌<◌, ◌≤◌, ◌-◌, map, IfOk, IsTrue, length};
 ghost use Rattle.std.specs.Arc.{arc_value};
 ghost use Rattle.std.specs.List.{All};
 ghost use Rattle.h265_model.specs.Plain.{ctus, below, IsPicture, AreBytes};
+ghost use Rattle.h265_model.specs.Words.{is_size};
 ghost use Rattle.px_plane.specs.Planes.{picture_of};
 ghost use Rattle.h265_model.specs.Stream.{slice_kind};
 ghost use Rattle.row_coder.specs.Rows.{leaves_of};
@@ -78,10 +79,12 @@ fn bytes_fit(plane: &[u8])
     ensures { AreBytes plane.now }
 {}
 
-// The samples of a picture are bytes.
-fn samples_fit(picture: &Picture)
-    ensures { IsPicture (picture_of picture.now) }
+// The size of a picture is within its limits, and its samples are bytes.
+fn picture_fits(picture: &Picture)
+    ensures size { IsTrue (is_size picture.now.size) }
+    ensures samples { IsPicture (picture_of picture.now) }
 {
+    let _size = picture.size();
     bytes_fit(picture.plane(0));
     bytes_fit(picture.plane(1));
     bytes_fit(picture.plane(2));
@@ -99,7 +102,7 @@ pub(crate) fn code_rows(
     ensures some { IfOk result (λ rows. 0 < length rows.items) }
     ensures few { IfOk result (λ rows. length rows.items ≤ 128) }
 {
-    samples_fit(task.current);
+    picture_fits(task.current);
     let rows = rows_alone(alloc, row_jobs(alloc, task, plans)?)?;
     Ok(rows)
 }

@@ -6,4 +6,4 @@ use Rattle.picture_encoder.specs.Planning.{chosen, size_of_task}
 use Rattle.picture_encoder.proofs.planning.plan_row.Given as goal
 
 abbrev pub invariant-loop-unit : goal.invariant-loop-unit
-invariant-loop-unit g l = leaves_of l.plans.items ≡ map (chosen l.fn.task.now) (range_with_len (l.fn.row * ctus (size_of_task l.fn.task.now).w) l.unit)
+invariant-loop-unit g l = leaves_of l.plans.items ≡ map (chosen l.fn.task) (range_with_len (l.fn.row * ctus (size_of_task l.fn.task).w) l.unit)
