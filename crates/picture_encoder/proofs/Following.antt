@@ -25,11 +25,11 @@ use Rattle.picture_encoder.specs.Planning.{reference_of, IsKeptBut, piece_of}
 
 laid_elsewhere : (p : Planes) (job : Job) (n c x y : ℕ) → ((k : ℕ) → k < n → get_or job.tiles k 0 ≡ tile_of p.size x y → ⊥) → laid_first p job n c x y ≡ picture_of p c x y
 laid_elsewhere p job zero c x y others = refl
-laid_elsewhere p job (suc n) c x y others = go (eqb (get_or job.tiles n 0) (tile_of p.size x y)) refl
+laid_elsewhere p job (suc n) c x y others = go (laid_elsewhere p job n c x y (λ k less. others k (omega arith))) (eqb (get_or job.tiles n 0) (tile_of p.size x y)) refl
   where
-    go : (b : Bool) → eqb (get_or job.tiles n 0) (tile_of p.size x y) ≡ b → cond b (get_or job.samples (n * 3072 + in_tile c x y) 0) (laid_first p job n c x y) ≡ picture_of p c x y
-    go true e = absurd (others n (omega arith) (eqb-true _ _ e))
-    go false e = laid_elsewhere p job n c x y (λ k less. others k (omega arith))
+    go : laid_first p job n c x y ≡ picture_of p c x y → (b : Bool) → eqb (get_or job.tiles n 0) (tile_of p.size x y) ≡ b → cond b (get_or job.samples (n * 3072 + in_tile c x y) 0) (laid_first p job n c x y) ≡ picture_of p c x y
+    go before true e = absurd (others n (omega arith) (eqb-true _ _ e))
+    go before false e = before
 
 in_its_tile : (size : Size) (tile x y : ℕ) → x < 32 → y < 32 → tile_of size (ctu_x size tile + x) (ctu_y size tile + y) ≡ tile
 in_its_tile size tile x y hx hy =

@@ -3,7 +3,7 @@ use Rattle.std.proofs.Common.{◌≡◌, refl, sym, ◌∙◌, ap, subst, ℕ, z
 use Rattle.std.specs.Prelude.{nat_le, slice_index}
 use Rattle.std.specs.List.{All, flat_map}
 use Rattle.std.proofs.lemmas.List.{length-map, length-replicate}
-use Rattle.h265_model.specs.Plain.{Size, joined}
+use Rattle.h265_model.specs.Plain.{Size, coded, joined}
 use Rattle.h265_model.specs.Bits.{u, ue, digits_up_to, digit_count, alignment, bytes}
 use Rattle.h265_model.specs.Fields.{Descriptor, U, Ue, Field, fixed, golomb, fields_bits, element_bits, aligned_bits}
 use Rattle.h265_model.specs.NalUnits.{escape, start_code, stream_bytes}
@@ -19,11 +19,11 @@ use Rattle.slice_assembly.proofs.EscapeLengths.{at_most_doubled, fits}
 few_digits : (n v : ℕ) → digits_up_to n v ≤ n
 unfolding digits_up_to
 few_digits zero v = omega arith
-few_digits (suc n) v = go (nat_le (2 ^ n) v)
+few_digits (suc n) v = go (few_digits n v) (nat_le (2 ^ n) v)
   where
-    go : (b : Bool) → cond b (suc n) (digits_up_to n v) ≤ suc n
-    go true = omega arith
-    go false = let r : digits_up_to n v ≤ n = few_digits n v in omega arith
+    go : digits_up_to n v ≤ n → (b : Bool) → cond b (suc n) (digits_up_to n v) ≤ suc n
+    go less true = omega arith
+    go less false = omega arith
 
 length_ue : (k : ℕ) → length (ue k) ≤ 128
 unfolding ue
@@ -53,7 +53,7 @@ length_fields [] = omega arith
 length_fields (f ∷ fs) = omega (arith, length-append (element_bits f.coding f.value) (fields_bits fs), length_element f.coding f.value, length_fields fs)
 
 weights_append : (xs ys : List Field) → weights (xs ++ ys) ≡ weights xs + weights ys
-weights_append [] ys = refl
+weights_append [] ys = let e : weights ys ≡ 0 + weights ys = omega arith in e
 weights_append (x ∷ xs) ys = let e : weights (xs ++ ys) ≡ weights xs + weights ys = weights_append xs ys in omega arith
 
 length_bytes : (bits : List Bool) → length (bytes bits) ≤ length bits
@@ -75,7 +75,7 @@ length_table fs =
 weights_window : (size : Size) → weights (window_fields size) ≤ 512
 weights_window size = go (is_padded size)
   where
-    go : (b : Bool) → weights (cond b (golomb 11 0 ∷ golomb 12 _ ∷ golomb 13 0 ∷ golomb 14 _ ∷ []) []) ≤ 512
+    go : (b : Bool) → weights (cond b (golomb 11 0 ∷ golomb 12 (coded size.w - size.w) ∷ golomb 13 0 ∷ golomb 14 (coded size.h - size.h) ∷ []) []) ≤ 512
     go true = omega arith
     go false = omega arith
 
@@ -188,19 +188,19 @@ pub piece_short : {X : Type 0} (idr : Bool) (poc : ℕ) (f : X → List ℕ) (ro
     → length (slice_piece idr poc (map (λ row. escape (f row)) rows)) < 2 ^ 40
 unfolding slice_piece
 piece_short idr poc f rows few all =
-    let coded : List (List ℕ) = map (λ row. escape (f row)) rows in
-    let offsets : List ℕ = map length (but_last coded) in
+    let rest : List (List ℕ) = map (λ row. escape (f row)) rows in
+    let offsets : List ℕ = map length (but_last rest) in
     let head : List ℕ = escape (bytes (head_bits (record { idr = idr; poc = poc; offsets = offsets }))) in
-    let lo : length offsets ≡ length (but_last coded) = length-map (but_last coded) length in
-    let lt : length (but_last coded) ≤ length coded = length_take (length coded - 1) coded in
-    let lc : length coded ≡ length rows = length-map rows (λ row. escape (f row)) in
+    let lo : length offsets ≡ length (but_last rest) = length-map (but_last rest) length in
+    let lt : length (but_last rest) ≤ length rest = length_take (length rest - 1) rest in
+    let lc : length rest ≡ length rows = length-map rows (λ row. escape (f row)) in
     let lh : length head ≤ 7000 + 64 * length offsets = length_head (record { idr = idr; poc = poc; offsets = offsets }) in
     let ln : length (nal_header idr) ≡ 2 = length_header idr in
-    let lj : length (joined coded) ≤ length rows * 2 ^ 32 = joined_short f rows all in
-    let a : length (start_code ++ nal_header idr ++ head ++ joined coded) ≡ length (start_code ++ nal_header idr ++ head) + length (joined coded) = length-append (start_code ++ nal_header idr ++ head) (joined coded) in
+    let lj : length (joined rest) ≤ length rows * 2 ^ 32 = joined_short f rows all in
+    let a : length (start_code ++ nal_header idr ++ head ++ joined rest) ≡ length (start_code ++ nal_header idr ++ head) + length (joined rest) = length-append (start_code ++ nal_header idr ++ head) (joined rest) in
     let b : length (start_code ++ nal_header idr ++ head) ≡ length (start_code ++ nal_header idr) + length head = length-append (start_code ++ nal_header idr) head in
     let c : length (start_code ++ nal_header idr) ≡ 4 + length (nal_header idr) = length-append start_code (nal_header idr) in
-    bound (length rows) (length offsets) (length head) (length (joined coded)) _ few (omega arith) lh lj (omega arith)
+    bound (length rows) (length offsets) (length head) (length (joined rest)) _ few (omega arith) lh lj (omega arith)
   where
     bound : (n o h j all : ℕ) → n ≤ 128 → o ≤ n → h ≤ 7000 + 64 * o → j ≤ n * 2 ^ 32 → all ≡ 6 + h + j → all < 2 ^ 40
     bound n o h j all hn ho hh hj e = omega arith

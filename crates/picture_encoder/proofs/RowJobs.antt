@@ -1,9 +1,10 @@
 -- The rows of a picture: what each is made of, and what each gives.
-use Rattle.std.proofs.Common.{◌≡◌, refl, sym, ◌∙◌, ap, subst, ℕ, zero, suc, ◌+◌, ◌*◌, ◌-◌, ◌<◌, ◌≤◌, List, [], ◌∷◌, ◌++◌, Bool, true, false, cond, length, length-append, take, drop, get_or, map, arith}
+use Rattle.std.proofs.Common.{◌≡◌, refl, sym, ◌∙◌, ap, subst, ℕ, zero, suc, ◌+◌, ◌*◌, ◌-◌, ◌<◌, ◌≤◌, List, [], ◌∷◌, ◌++◌, Bool, true, false, cond, length, length-append, take, drop, get_or, map, reverse, arith}
 use Rattle.std.specs.Prelude.{Option, Some, None, slice_index_or, ◌==◌}
 use Rattle.std.specs.List.{AllByRecursion, All, range_with_len}
-use Rattle.std.proofs.lemmas.List.{length-map, get_or-map}
-use Rattle.std.proofs.lemmas.List.FromFn.{length-map-range_with_len, get_or-map-range_with_len}
+use Rattle.std.proofs.lemmas.List.{length-map, get_or-map, map_push}
+use Rattle.std.proofs.lemmas.Grind.{reverse_onto}
+use Rattle.std.proofs.lemmas.List.FromFn.{length-map-range_with_len, get_or-map-range_with_len, map-range_with_len_more}
 use Rattle.h265_model.specs.declared.leaf.Leaf.{Leaf}
 use Rattle.h265_model.specs.declared.leaf.SliceKind.{SliceKind}
 use Rattle.h265_model.specs.Plain.{Size, ctus, below, joined}
@@ -44,6 +45,47 @@ module _ {A : Type 0} where
 pub map_twice : {A B C : Type 0} (f : A → B) (g : B → C) (xs : List A) → map g (map f xs) ≡ map (λ x. g (f x)) xs
 map_twice f g [] = refl
 map_twice f g (x ∷ xs) = ap (λ l. g (f x) ∷ l) (map_twice f g xs)
+
+module _ {X Y : Type 0} (f : X → Y) (g : ℕ → Y) where
+  -- one more at the end
+  pub one_more_of : (xs all : List X) (x : X) (a n j : ℕ) → all ≡ xs ++ x ∷ [] → map f xs ≡ map g (range_with_len a n) → f x ≡ g j → a + n ≡ j → map f all ≡ map g (range_with_len a (n + 1))
+  one_more_of xs all x a n j e before at next =
+      ap (λ (l : List X). map f l) e
+      ∙ (map_push f xs x
+      ∙ (ap (λ (l : List Y). l ++ f x ∷ []) before ∙ (ap (λ (v : Y). map g (range_with_len a n) ++ v ∷ []) at ∙ sym (map-range_with_len_more g a n j next))))
+
+  -- what is left without the last, and the last
+  pub record IsPopped (front : List X) (last : X) (n : ℕ) : Type 0 where
+    pub some : 0 < n
+    pub count : length front ≡ n - 1
+    pub others : map f front ≡ map g (below (n - 1))
+    pub last_is : f last ≡ g (n - 1)
+
+  pub popped : (all front : List X) (last : X) (n : ℕ) → all ≡ front ++ last ∷ [] → length all ≡ n → map f all ≡ map g (below n) → IsPopped front last n
+  popped all front last n is long known =
+      let sum : length all ≡ length front + 1 = ap length is ∙ length-append front (last ∷ []) in
+      let m : ℕ = n - 1 in
+      let more : n ≡ m + 1 = omega arith in
+      let parts = last_and_front (map f front) (map g (below m)) (f last) (g m)
+      (sym (map_push f front last) ∙ (ap (λ (l : List X). map f l) (sym is) ∙ (known ∙ (ap (λ (k : ℕ). map g (below k)) more ∙ map-range_with_len_more g 0 m m (omega arith))))) in
+      record { some = omega arith; count = omega arith; others = parts.0; last_is = parts.1 }
+
+module _ {Y : Type 0} (f : ℕ → Y) where
+  pub none_left : (row n : ℕ) → row ≡ n → [] ≡ reverse (map f (range_with_len row (n - row)))
+  none_left row n e = let z : 0 ≡ n - row = omega arith in ap (λ (k : ℕ). reverse (map f (range_with_len row k))) z
+
+  one_before : (r n : ℕ) → r < n → reverse (map f (range_with_len (r + 1) (n - (r + 1)))) ++ f r ∷ [] ≡ reverse (map f (range_with_len r (n - r)))
+  one_before r n less =
+      let more : suc (n - (r + 1)) ≡ n - r = omega arith in
+      sym (reverse_onto (map f (range_with_len (r + 1) (n - (r + 1)))) (f r) []) ∙ ap (λ (k : ℕ). reverse (map f (range_with_len r k))) more
+
+  pub next_before : (row n : ℕ) (before all : List Y) (y : Y) → 0 < row → row ≤ n → before ≡ reverse (map f (range_with_len row (n - row))) → y ≡ f (row - 1) → all ≡ before ++ y ∷ []
+      → all ≡ reverse (map f (range_with_len (row - 1) (n - (row - 1))))
+  next_before row n before all y some few known at e =
+      let more : row ≡ row - 1 + 1 = omega arith in
+      e
+      ∙ (ap (λ (l : List Y). l ++ y ∷ []) (known ∙ ap (λ (k : ℕ). reverse (map f (range_with_len k (n - k)))) more)
+      ∙ (ap (λ (v : Y). reverse (map f (range_with_len (row - 1 + 1) (n - (row - 1 + 1)))) ++ v ∷ []) at ∙ one_before (row - 1) n (omega arith)))
 
 -- ---- making the rows
 
@@ -199,7 +241,7 @@ module _ (t : Task) (jobs : List Row) (e : jobs ≡ map (row_of_task t) (below (
   jobs_give bytes some known =
       known (ctus (size_of_task t).w) jobs_width ∙ (ap (λ (l : List Row). rows_of (ctus (size_of_task t).w) (map plan_of l)) e ∙ task_rows t some)
 
-pub rows_long : {X : Type 0} (f : X → List ℕ) (rows : List X) (code : ℕ → List ℕ) (n : ℕ) → map f rows ≡ map code (below n) → length rows ≡ n
+pub rows_long : {X Y : Type 0} (f : X → Y) (rows : List X) (code : ℕ → Y) (n : ℕ) → map f rows ≡ map code (below n) → length rows ≡ n
 rows_long f rows code n e = sym (length-map rows f) ∙ (ap length e ∙ length-map-range_with_len code 0 n)
 
 pub escaped_are : {X : Type 0} (f : X → List ℕ) (rows : List X) (code : ℕ → List ℕ) (n : ℕ) → map f rows ≡ map code (below n) → map (λ row. escape (f row)) rows ≡ map (λ row. escape (code row)) (below n)

@@ -15,10 +15,10 @@ rows_alone-requires-clause-some c =
     omega arith
 
 pub rows_alone-requires-clause-fresh : goal.rows_alone-requires-clause-fresh
-rows_alone-requires-clause-fresh c = jobs_fresh c.args.task.now c.in_ok-row_jobs.field-0.items c.in_ok-row_jobs.ensures
+rows_alone-requires-clause-fresh c _ = jobs_fresh c.args.task.now c.in_ok-row_jobs.field-0.items c.in_ok-row_jobs.ensures
 
 pub rows_alone-requires-clause-widths : goal.rows_alone-requires-clause-widths
-rows_alone-requires-clause-widths c = (ctus (size_of_task c.args.task.now).w, jobs_width c.args.task.now c.in_ok-row_jobs.field-0.items c.in_ok-row_jobs.ensures)
+rows_alone-requires-clause-widths c _ = (ctus (size_of_task c.args.task.now).w, jobs_width c.args.task.now c.in_ok-row_jobs.field-0.items c.in_ok-row_jobs.ensures)
 
 pub returns-clause-rows : goal.returns-clause-rows
 returns-clause-rows c =

@@ -1,4 +1,4 @@
-use Rattle.std.proofs.Common.{◌≡◌, ◌<◌, ◌∙◌, ap, List, arith}
+use Rattle.std.proofs.Common.{◌≡◌, ◌<◌, ◌-◌, ◌∙◌, ap, List, arith}
 use Rattle.std.specs.Arc.{arc_value}
 use Rattle.h265_model.specs.declared.leaf.Leaf.{Leaf}
 use Rattle.row_coder.specs.Rows.{leaves_of}
