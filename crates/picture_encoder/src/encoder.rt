@@ -142,3 +142,6 @@ impl Encoder {
         Ok(piece)
     }
 }
+
+#[cfg(test)]
+mod tests;
