@@ -236,12 +236,13 @@ fn pictures_of_small_desktops(rt: HostRuntime) -> Result<(), Fail> {
         let mut encoder = Encoder::new(rt.alloc(), size, case.effort, case.key)?;
         assert_eq!(rt; mark(&encoder.first()?), case.first);
         for number in 0..4u32 {
-            let job = job(rt.alloc(), size, number, case.cuts[number as usize])?;
+            let (list, want) = (case.cuts[number as usize], case.pieces[number as usize]);
+            let job = job(rt.alloc(), size, number, list)?;
             assert!(rt; is_next(&encoder, &job));
             let piece = encoder.next_alone(&job)?;
             assert_eq!(rt;
                 mark(&piece),
-                case.pieces[number as usize],
+                want,
                 "{}x{}, effort {}, key {}, picture {number}",
                 case.w,
                 case.h,
