@@ -1,5 +1,5 @@
 -- A picture that is to be coded, and what is coded of it.
-use Rattle.std.specs.Prelude.{◌≡◌, ◌≤◌, ◌<◌, ℕ, ◌*◌, ◌+◌, Bool, true, false, ◌%◌, List, [], map, length, slice_index, slice_index_or, Option, Some, None}
+use Rattle.std.specs.Prelude.{◌≡◌, ◌≤◌, ◌<◌, ℕ, ◌*◌, ◌+◌, Bool, true, false, ◌%◌, List, [], ◌∷◌, map, length, slice_index, slice_index_or, Option, Some, None}
 use Rattle.std.specs.Arc.{arc_value}
 use Rattle.std.specs.List.{range_with_len, Contains}
 use Rattle.h265_model.specs.declared.leaf.Leaf.{Leaf}
@@ -26,6 +26,17 @@ reference_of false last = Some last
 -- each listed tile has its flag
 abbrev pub AreFlagged : List Bool → List ℕ → Type 0
 AreFlagged flags tiles = (k : ℕ) → k < length tiles → slice_index_or flags (slice_index tiles k) false ≡ true
+
+-- how many flags there are
+abbrev pub raised : List Bool → ℕ
+raised [] = 0
+raised (true ∷ flags) = 1 + raised flags
+raised (false ∷ flags) = raised flags
+
+-- how many positions are compared at most in a tile, by its flag
+abbrev pub most_ticks : Bool → ℕ
+most_ticks true = 1024
+most_ticks false = 0
 
 -- two pictures of one size are the same in each tile that has no flag
 pub record IsKept (flags : List Bool) (last now : Planes) : Type 0 where

@@ -1,9 +1,9 @@
 //! Which coding units are coded of a picture.
-ghost use Rattle.std.specs.Prelude.{◌≡◌, ◌<◌, ◌*◌, map, IfOk};
+ghost use Rattle.std.specs.Prelude.{◌≡◌, ◌<◌, ◌≤◌, ◌+◌, ◌*◌, false, map, take, slice_index_or, IfOk, OnOk};
 ghost use Rattle.h265_model.specs.Plain.{ctus, below};
 ghost use Rattle.h265_model.specs.Desk.{tile_count};
 ghost use Rattle.row_coder.specs.Rows.{leaves_of};
-ghost use Rattle.picture_encoder.specs.Planning.{IsTask, chosen, row_chosen, size_of_task};
+ghost use Rattle.picture_encoder.specs.Planning.{IsTask, chosen, row_chosen, size_of_task, raised, most_ticks};
 
 use bin_items::Leaves;
 use block_choice::plan_ctu;
@@ -29,7 +29,8 @@ pub(crate) struct Task<'a> {
 fn plan_unit<L: Ledger>(task: &Task, ctu: u32, steps: &mut Steps<L>) -> Leaves
     requires task { IsTask task.now }
     requires ctu { ctu < tile_count (size_of_task task.now) }
-    ensures { result.items ≡ chosen task.now ctu }
+    ensures choice { result.items ≡ chosen task.now ctu }
+    ensures steps { steps.new ≤ steps.old + most_ticks (slice_index_or task.now.touched.now ctu false) }
 {
     let touched = task.touched[ctu as usize];
     let last = if task.idr { None } else { Some(task.last) };
@@ -45,7 +46,9 @@ fn plan_row<L: Ledger>(
 ) -> Result<Vec<Leaves>, NoMemory>
     requires task { IsTask task.now }
     requires row { row < ctus (size_of_task task.now).h }
-    ensures { IfOk result (λ plans. leaves_of plans.items ≡ row_chosen task.now row) }
+    ensures plans { IfOk result (λ plans. leaves_of plans.items ≡ row_chosen task.now row) }
+    ensures steps { OnOk result (steps.new + 1024 * raised (take (row * ctus (size_of_task task.now).w) task.now.touched.now)
+        ≤ steps.old + 1024 * raised (take (row * ctus (size_of_task task.now).w + ctus (size_of_task task.now).w) task.now.touched.now)) }
 {
     let across = (task.current.size().w() + 31) / 32;
     let mut plans = Vec::with_capacity(alloc, across as usize)?;
@@ -55,14 +58,15 @@ fn plan_row<L: Ledger>(
     Ok(plans)
 }
 
-// Those of all rows.
+// Those of all rows. Positions are compared in tiles alone that have a flag.
 fn plan_rows<L: Ledger>(
     alloc: Global,
     task: &Task,
     steps: &mut Steps<L>,
 ) -> Result<Vec<Vec<Leaves>>, NoMemory>
     requires { IsTask task.now }
-    ensures { IfOk result (λ rows. map (λ row. leaves_of row.items) rows.items ≡ map (row_chosen task.now) (below (ctus (size_of_task task.now).h))) }
+    ensures plans { IfOk result (λ rows. map (λ row. leaves_of row.items) rows.items ≡ map (row_chosen task.now) (below (ctus (size_of_task task.now).h))) }
+    ensures steps { OnOk result (steps.new ≤ steps.old + 1024 * raised task.now.touched.now) }
 {
     let down = (task.current.size().h() + 31) / 32;
     let mut rows = Vec::with_capacity(alloc, down as usize)?;
