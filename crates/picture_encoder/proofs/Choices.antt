@@ -1,7 +1,7 @@
 -- The leaves that are chosen of a picture: row by row, and lawful.
-use Rattle.std.proofs.Common.{◌≡◌, refl, sym, ◌∙◌, ap, subst, ℕ, zero, suc, ◌+◌, ◌*◌, ◌-◌, ◌<◌, ◌≤◌, List, [], ◌∷◌, ◌++◌, Bool, true, false, cond, length, take, drop, get_or, map, arith}
-use Rattle.std.specs.Prelude.{Option, Some, None, nat_lt, ◌&&◌, IsTrue}
-use Rattle.std.specs.List.{AllByRecursion, range_with_len}
+use Rattle.std.proofs.Common.{◌≡◌, refl, sym, ◌∙◌, ap, subst, ℕ, zero, suc, ◌+◌, ◌*◌, ◌-◌, ◌<◌, ◌≤◌, List, [], ◌∷◌, Bool, true, false, cond, take, drop, get_or, map, arith}
+use Rattle.std.specs.Prelude.{Some, None, nat_lt, ◌&&◌}
+use Rattle.std.specs.List.{range_with_len}
 use Rattle.std.proofs.lemmas.List.FromFn.{take-map-range_with_len, length-map-range_with_len, get_or-map-range_with_len}
 use Rattle.std.proofs.lemmas.Nat.{mul-le}
 use Rattle.h265_model.specs.declared.leaf.Leaf.{Leaf}
@@ -14,7 +14,6 @@ use Rattle.h265_laws.proofs.ChoiceLaw.{choice_is_lawful, choice_is_fair, allowed
 use Rattle.h265_laws.proofs.PredictionLaw.{source_is}
 use Rattle.px_plane.specs.Planes.{Planes, plane_of, picture_of}
 use Rattle.row_coder.specs.Rows.{AreTrees, AreAbove}
-use Rattle.row_coder.specs.Laws.{row_leaves}
 use Rattle.picture_encoder.specs.Planning.{reference_of}
 
 -- ---- rows of a list

@@ -1,5 +1,5 @@
 -- How many flags there are, and how many positions are compared.
-use Rattle.std.proofs.Common.{◌≡◌, refl, ℕ, zero, suc, ◌+◌, ◌*◌, ◌<◌, ◌≤◌, List, [], ◌∷◌, Bool, true, false, length, take, set, get_or, replicate, arith}
+use Rattle.std.proofs.Common.{◌≡◌, refl, ℕ, zero, suc, ◌+◌, ◌*◌, ◌≤◌, List, [], ◌∷◌, Bool, true, false, take, set, get_or, replicate, arith}
 use Rattle.picture_encoder.specs.Planning.{raised, most_ticks}
 
 pub none_raised : (n : ℕ) → raised (replicate n false) ≡ 0

@@ -1,13 +1,12 @@
 -- A picture that follows those that an encoder has coded: what a job leaves of the last one, and which piece is the definition's.
-use Rattle.std.proofs.Common.{◌≡◌, refl, sym, ◌∙◌, ap, subst, ℕ, zero, suc, ◌+◌, ◌*◌, ◌/◌, ◌%◌, ◌<◌, ◌≤◌, List, [], ◌∷◌, ◌++◌, Bool, true, false, cond, eqb, length, length-append, get_or, arith}
-use Rattle.std.specs.Prelude.{Option, Some, None, option_map, slice_index, ◌==◌}
-use Rattle.std.specs.List.{Contains, last_or}
+use Rattle.std.proofs.Common.{◌≡◌, refl, sym, ◌∙◌, ap, ℕ, zero, suc, ◌+◌, ◌*◌, ◌/◌, ◌%◌, ◌<◌, List, [], ◌∷◌, ◌++◌, Bool, true, false, cond, eqb, length, get_or, arith}
+use Rattle.std.specs.Prelude.{Option, Some, None, option_map}
+use Rattle.std.specs.List.{last_or}
 use Rattle.std.proofs.lemmas.Bool.{eqb-true}
 use Rattle.std.proofs.lemmas.List.{get_or_default}
 use Rattle.std.proofs.lemmas.Nat.{div-add-mod'}
 use Rattle.h265_model.specs.declared.line.Job.{Job}
-use Rattle.h265_model.specs.Plain.{Size, Picture, coded, ctus, ctu_x, ctu_y}
-use Rattle.h265_model.specs.Desk.{tile_count}
+use Rattle.h265_model.specs.Plain.{Size, Picture, ctus, ctu_x, ctu_y}
 use Rattle.h265_model.specs.Raster.{Raster, raster, coded_picture}
 use Rattle.h265_model.specs.Words.{Settings}
 use Rattle.h265_model.specs.NalUnits.{stream_bytes}
@@ -17,7 +16,6 @@ use Rattle.h265_laws.proofs.PlayLaws.{pieces-append}
 use Rattle.px_plane.specs.Planes.{Planes, picture_of, Stores, Shows}
 use Rattle.px_plane.specs.Tiles.{tile_of, in_tile, laid_first, laid}
 use Rattle.px_plane.proofs.Shown.{shown_is_coded}
-use Rattle.block_choice.specs.Plans.{IsSameTree}
 use Rattle.picture_encoder.specs.Coded.{Coded, StandsFor, last_of}
 use Rattle.picture_encoder.specs.Planning.{reference_of, IsKeptBut, piece_of}
 

@@ -1,14 +1,14 @@
 -- How long pieces can get.
-use Rattle.std.proofs.Common.{◌≡◌, refl, sym, ◌∙◌, ap, subst, ℕ, zero, suc, ◌+◌, ◌*◌, ◌-◌, ◌^◌, ◌%◌, ◌<◌, ◌≤◌, List, [], ◌∷◌, ◌++◌, Bool, true, false, cond, length, length-append, take, replicate, map, arith}
-use Rattle.std.specs.Prelude.{nat_le, slice_index}
-use Rattle.std.specs.List.{All, flat_map}
+use Rattle.std.proofs.Common.{◌≡◌, refl, ℕ, zero, suc, ◌+◌, ◌*◌, ◌-◌, ◌^◌, ◌%◌, ◌<◌, ◌≤◌, List, [], ◌∷◌, ◌++◌, Bool, true, false, cond, length, length-append, take, replicate, map, arith}
+use Rattle.std.specs.Prelude.{nat_le}
+use Rattle.std.specs.List.{All}
 use Rattle.std.proofs.lemmas.List.{length-map, length-replicate}
 use Rattle.h265_model.specs.Plain.{Size, coded, joined}
 use Rattle.h265_model.specs.Bits.{u, ue, digits_up_to, digit_count, alignment, bytes}
 use Rattle.h265_model.specs.Fields.{Descriptor, U, Ue, Field, fixed, golomb, fields_bits, element_bits, aligned_bits}
 use Rattle.h265_model.specs.NalUnits.{escape, start_code, stream_bytes}
 use Rattle.h265_model.specs.ParamSets.{param_units, vps_front, vps_back, vps_fields, profile_tier_level, sps_formats, sps_front, sps_back, sps_fields, size_fields, window_fields, is_padded, pps_fields}
-use Rattle.h265_model.specs.SliceHead.{Head, head_bits, head_fields, head_front, head_middle, poc_fields, entry_fields, entry_points}
+use Rattle.h265_model.specs.SliceHead.{Head, head_bits, head_fields, head_front, head_middle, poc_fields, entry_points}
 use Rattle.h265_model.specs.Stream.{slice_piece, nal_header, but_last}
 use Rattle.h265_model.proofs.BitLaws.{length-u}
 use Rattle.slice_assembly.specs.Substreams.{IsSubstream}

@@ -1,13 +1,13 @@
 -- The rows of a picture: what each is made of, and what each gives.
-use Rattle.std.proofs.Common.{◌≡◌, refl, sym, ◌∙◌, ap, subst, ℕ, zero, suc, ◌+◌, ◌*◌, ◌-◌, ◌<◌, ◌≤◌, List, [], ◌∷◌, ◌++◌, Bool, true, false, cond, length, length-append, take, drop, get_or, map, reverse, arith}
+use Rattle.std.proofs.Common.{◌≡◌, refl, sym, ◌∙◌, ap, subst, ℕ, zero, suc, ◌+◌, ◌*◌, ◌-◌, ◌<◌, ◌≤◌, List, [], ◌∷◌, ◌++◌, false, cond, length, length-append, get_or, map, reverse, arith}
 use Rattle.std.specs.Prelude.{Option, Some, None, slice_index_or, ◌==◌}
-use Rattle.std.specs.List.{AllByRecursion, All, range_with_len}
+use Rattle.std.specs.List.{All, range_with_len}
 use Rattle.std.proofs.lemmas.List.{length-map, get_or-map, map_push}
 use Rattle.std.proofs.lemmas.Grind.{reverse_onto}
 use Rattle.std.proofs.lemmas.List.FromFn.{length-map-range_with_len, get_or-map-range_with_len, map-range_with_len_more}
 use Rattle.h265_model.specs.declared.leaf.Leaf.{Leaf}
 use Rattle.h265_model.specs.declared.leaf.SliceKind.{SliceKind}
-use Rattle.h265_model.specs.Plain.{Size, ctus, below, joined}
+use Rattle.h265_model.specs.Plain.{ctus, below, joined}
 use Rattle.h265_model.specs.NalUnits.{escape}
 use Rattle.h265_model.specs.Slice.{IsSlice, row_code}
 use Rattle.h265_model.specs.Tree.{source_of}
@@ -15,13 +15,13 @@ use Rattle.h265_model.specs.Wave.{Jobs, inherited, row_bytes}
 use Rattle.h265_laws.proofs.SubstreamLaw.{each_row_is_substream}
 use Rattle.px_plane.specs.Planes.{Planes, picture_of}
 use Rattle.row_core.specs.Plan.{Plan}
-use Rattle.row_coder.specs.Rows.{Row, plan_of, leaves_of, AreTrees, AreAbove}
-use Rattle.row_coder.specs.Laws.{row_leaves, leaves_above, IsRowOf, ArePictureLeaves, IsCodedRow}
+use Rattle.row_coder.specs.Rows.{Row, plan_of, AreTrees, AreAbove}
+use Rattle.row_coder.specs.Laws.{row_leaves, leaves_above, ArePictureLeaves}
 use Rattle.row_coder.proofs.Linked.{each_job_is_coded}
 use Rattle.row_workers.specs.Rows.{no_plan, jobs_of, HaveWidth, rows_of}
 use Rattle.slice_assembly.specs.Substreams.{IsSubstream}
 use Rattle.picture_encoder.specs.declared.planning.Task.{Task}
-use Rattle.picture_encoder.specs.Planning.{reference_of, planes_of_task, size_of_task, kind_of_task, chosen, all_chosen, row_chosen, job_row, row_of_task, code_of_task}
+use Rattle.picture_encoder.specs.Planning.{planes_of_task, size_of_task, kind_of_task, chosen, all_chosen, row_chosen, job_row, row_of_task, code_of_task}
 use Rattle.picture_encoder.proofs.Choices.{row_of_all, trees_are, above_are, lawful_are}
 
 -- ---- lists
@@ -192,11 +192,10 @@ width_of r = refl
 
 widths_are : (t : Task) (a n : ℕ) → a + n ≤ ctus (size_of_task t).h → HaveWidth (ctus (size_of_task t).w) (map plan_of (map (row_of_task t) (range_with_len a n)))
 widths_are t a zero h = tt
-widths_are t a (suc n) h =
-    (
-      width_of (row_of_task t a) ∙ (ap length (row_is t a (omega arith)) ∙ length-map-range_with_len (chosen t) (a * ctus (size_of_task t).w) (ctus (size_of_task t).w)),
-      widths_are t (a + 1) n (omega arith),
-    )
+widths_are t a (suc n) h = (
+  width_of (row_of_task t a) ∙ (ap length (row_is t a (omega arith)) ∙ length-map-range_with_len (chosen t) (a * ctus (size_of_task t).w) (ctus (size_of_task t).w)),
+  widths_are t (a + 1) n (omega arith),
+)
 
 pub have_width : (t : Task) → HaveWidth (ctus (size_of_task t).w) (map plan_of (map (row_of_task t) (below (ctus (size_of_task t).h))))
 have_width t = widths_are t 0 (ctus (size_of_task t).h) (omega arith)

@@ -39,13 +39,7 @@ fn row_job(
     requires above { map (λ row. leaves_of row.items) above.now ≡ map (row_chosen task.now) (below row) }
     ensures { IfOk result (λ job. job ≡ row_of_task task.now row) }
 {
-    let job = CtuRow::new(
-        alloc,
-        task.current.clone()?,
-        kind_of(task.idr),
-        row,
-        plans,
-    )?;
+    let job = CtuRow::new(alloc, task.current.clone()?, kind_of(task.idr), row, plans)?;
     if row == 0 {
         return Ok(job);
     }
@@ -54,11 +48,7 @@ fn row_job(
 }
 
 // The rows from the top, each with its coding units.
-fn row_jobs(
-    alloc: Global,
-    task: &Task,
-    plans: Vec<Vec<Leaves>>,
-) -> Result<Vec<CtuRow>, NoMemory>
+fn row_jobs(alloc: Global, task: &Task, plans: Vec<Vec<Leaves>>) -> Result<Vec<CtuRow>, NoMemory>
     requires { map (λ row. leaves_of row.items) plans.items ≡ map (row_chosen task.now) (below (ctus (size_of_task task.now).h)) }
     ensures { IfOk result (λ jobs. jobs.items ≡ map (row_of_task task.now) (below (ctus (size_of_task task.now).h))) }
 {

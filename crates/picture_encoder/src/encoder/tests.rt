@@ -172,18 +172,17 @@ fn sample(pattern: u8, component: u32, x: u32, y: u32) -> u8
 }
 
 // The samples of a tile with a pattern.
-fn append_tile(
-    samples: &mut Vec<u8>,
-    size: Size,
-    tile: u8,
-    pattern: u8,
-) -> Result<(), NoMemory> {
+fn append_tile(samples: &mut Vec<u8>, size: Size, tile: u8, pattern: u8) -> Result<(), NoMemory> {
     let across = (size.w() + 31) / 32;
     let (left, top) = (u32::from(tile) % across * 32, u32::from(tile) / across * 32);
     for at in 0..3072u32 {
         let (x, y) = (left + at % 32, top + at / 32 % 32);
         let inside = x < size.w() && y < size.h();
-        samples.push(if inside { sample(pattern, at / 1024, x, y) } else { 0 })?;
+        samples.push(if inside {
+            sample(pattern, at / 1024, x, y)
+        } else {
+            0
+        })?;
     }
     Ok(())
 }

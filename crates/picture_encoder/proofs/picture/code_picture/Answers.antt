@@ -1,4 +1,4 @@
-use Rattle.std.proofs.Common.{◌≡◌, ◌<◌, ◌^◌, sym, ◌∙◌, ap, subst, List, ℕ, map, length, arith}
+use Rattle.std.proofs.Common.{◌<◌, ◌^◌, sym, ◌∙◌, ap, subst, List, ℕ, map, length}
 use Rattle.h265_model.specs.Plain.{ctus}
 use Rattle.h265_model.specs.NalUnits.{escape}
 use Rattle.h265_model.specs.Stream.{slice_piece}

@@ -1,4 +1,3 @@
-use Rattle.std.proofs.Common.{◌≡◌}
 use Rattle.picture_encoder.proofs.planning.plan_picture.Given as goal
 
 abbrev pub ghosts-plan_in : goal.ghosts-plan_in

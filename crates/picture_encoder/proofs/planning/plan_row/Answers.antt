@@ -1,4 +1,4 @@
-use Rattle.std.proofs.Common.{◌≡◌, ◌≤◌, ◌+◌, ◌*◌, ◌/◌, false, suc, sym, refl, ◌∙◌, ap, take, get_or, ℕ, List, Bool, arith}
+use Rattle.std.proofs.Common.{◌≡◌, ◌+◌, ◌*◌, ◌/◌, false, suc, sym, refl, ◌∙◌, ap, take, get_or, ℕ, List, Bool, arith}
 use Rattle.std.specs.Prelude.{slice_index_or}
 use Rattle.h265_model.specs.Plain.{Size, ctus}
 use Rattle.px_plane.specs.Planes.{Planes}

@@ -1,4 +1,4 @@
-use Rattle.std.proofs.Common.{◌≡◌, ◌≤◌, ◌+◌, ◌*◌, suc, sym, ap, take, ℕ, List, Bool, arith}
+use Rattle.std.proofs.Common.{◌≡◌, ◌+◌, ◌*◌, ap, take, ℕ, arith}
 use Rattle.h265_model.specs.Plain.{ctus}
 use Rattle.row_coder.specs.Rows.{leaves_of}
 use Rattle.picture_encoder.specs.Planning.{row_chosen, size_of_task, raised}

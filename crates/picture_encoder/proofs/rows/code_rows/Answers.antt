@@ -1,5 +1,5 @@
-use Rattle.std.proofs.Common.{◌≡◌, ◌<◌, sym, ◌∙◌, ap, subst, List, ℕ, map, length, arith}
-use Rattle.h265_model.specs.Plain.{IsPicture, Size, ctus, below}
+use Rattle.std.proofs.Common.{subst, map, arith}
+use Rattle.h265_model.specs.Plain.{IsPicture, ctus}
 use Rattle.h265_laws.proofs.PictureLaw.{IsFit, size_fits}
 use Rattle.px_plane.specs.Planes.{Planes, picture_of}
 use Rattle.picture_encoder.specs.Planning.{planes_of_task, size_of_task, kind_of_task, all_chosen, code_of_task}

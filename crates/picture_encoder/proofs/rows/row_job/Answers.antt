@@ -1,6 +1,5 @@
 use Rattle.std.proofs.Common.{◌≡◌, ◌<◌, ◌-◌, ◌∙◌, ap, List, arith}
 use Rattle.std.specs.Arc.{arc_value}
-use Rattle.h265_model.specs.declared.leaf.Leaf.{Leaf}
 use Rattle.row_coder.specs.Rows.{leaves_of}
 use Rattle.picture_encoder.specs.Planning.{row_chosen}
 use Rattle.picture_encoder.proofs.RowJobs.{job_trees, job_above, first_job, next_job, row_above}

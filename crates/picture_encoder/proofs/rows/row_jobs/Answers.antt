@@ -1,4 +1,4 @@
-use Rattle.std.proofs.Common.{◌≡◌, ◌+◌, ◌-◌, ◌/◌, ◌<◌, ◌≤◌, sym, ◌∙◌, ap, ℕ, map, length, arith}
+use Rattle.std.proofs.Common.{◌≡◌, ◌+◌, ◌/◌, sym, ◌∙◌, ap, ℕ, map, arith}
 use Rattle.h265_model.specs.Plain.{Size, ctus, below}
 use Rattle.px_plane.specs.Planes.{Planes}
 use Rattle.row_coder.specs.Rows.{leaves_of}

@@ -1,4 +1,4 @@
-use Rattle.std.proofs.Common.{◌≡◌, ◌<◌, ◌≤◌, ◌+◌, ◌*◌, ◌/◌, true, false, ℕ, List, Bool, get_or, ap, ◌∙◌, rules, arith}
+use Rattle.std.proofs.Common.{◌≡◌, ◌+◌, ◌*◌, ◌/◌, get_or, ap, ◌∙◌, rules, arith}
 use Rattle.picture_encoder.specs.Planning.{raised}
 use Rattle.picture_encoder.proofs.Counts.{none_raised, raised_set}
 use Rattle.picture_encoder.proofs.tiles.flags_of.Goals as goal

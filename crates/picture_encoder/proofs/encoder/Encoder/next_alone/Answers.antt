@@ -1,6 +1,6 @@
-use Rattle.std.proofs.Common.{◌≡◌, ◌+◌, [], ◌∷◌, ◌++◌, sym, ◌∙◌, ap, subst, List, ℕ, length, length-append, arith}
+use Rattle.std.proofs.Common.{[], ◌∷◌, sym, ap, subst, length-append, arith}
 use Rattle.std.specs.Arc.{arc_value}
-use Rattle.h265_model.specs.Raster.{Raster, raster}
+use Rattle.h265_model.specs.Raster.{raster}
 use Rattle.px_plane.specs.Planes.{Shows}
 use Rattle.picture_encoder.specs.Coded.{Coded}
 use Rattle.picture_encoder.proofs.Following.{last_append, one_more}

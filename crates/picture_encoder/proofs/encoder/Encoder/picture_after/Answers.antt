@@ -1,5 +1,4 @@
 use Rattle.std.proofs.Common.{◌≡◌, sym, ◌∙◌, ap, subst}
-use Rattle.std.specs.Arc.{arc_value}
 use Rattle.px_plane.specs.Planes.{Planes}
 use Rattle.picture_encoder.specs.Coded.{Coded}
 use Rattle.picture_encoder.specs.Planning.{IsKeptBut}
