@@ -1,0 +1,147 @@
+//! The encoder of a recording.
+ghost use Rattle.std.specs.Prelude.{◌≡◌, ◌≤◌, ◌<◌, ◌-◌, ◌^◌, List, [], ◌∷◌, ◌++◌, length, IfOk, OnOk, OnErr};
+ghost use Rattle.std.specs.Arc.{arc_value};
+ghost use Rattle.h265_model.specs.Raster.{Raster};
+ghost use Rattle.h265_model.specs.Stream.{pieces};
+ghost use Rattle.px_plane.specs.Tiles.{IsJobOf};
+ghost use Rattle.px_plane.specs.Planes.{Shows};
+ghost use Rattle.picture_encoder.specs.Coded.{StandsFor, TurnsInto};
+ghost use Rattle.picture_encoder.specs.Planning.{IsKept, IsKeptBut, piece_of};
+
+use crate::order::{is_idr, order_bits};
+use crate::picture::code_picture;
+use crate::planning::Task;
+use crate::tiles::flags_of;
+use h265_model::NoMemory;
+use param_sets::{Params, write_params};
+use px_plane::{Job, Picture, Size};
+use std::alloc::Global;
+use std::marker::Model;
+use std::sync::Arc;
+
+/// Codes the pictures of a recording, one after another: a picture with a number that KEY divides as an IDR picture, and each other one as it differs
+/// from the one before. With KEY 0 only the first is an IDR picture.
+///
+/// It stands for the list of pictures that it has coded. Contracts see its settings, the number of these pictures, and the last of them.
+#[derive(Drop)]
+pub struct Encoder {
+    alloc: Global,
+    effort: u32,
+    key: u32,
+    count: u32,
+    // The picture that was coded last; black where there is none.
+    last: Arc<Picture, Global>,
+}
+
+impl Model for Encoder {
+    ghost use Rattle.std.specs.Prelude.{◌≤◌};
+    ghost use Rattle.std.specs.Arc.{arc_value};
+    ghost use Rattle.picture_encoder.specs.Coded.{Coded};
+
+    ghost Value = { Coded };
+
+    ghost view = { λ e. record {
+      settings = record { size = (arc_value e.last).size; effort = e.effort; key = e.key };
+      count = e.count;
+      last = arc_value e.last;
+    } };
+
+    ghost invariant = { λ e. e.effort ≤ 2 };
+}
+
+impl Encoder {
+    /// An encoder for pictures of this size that has coded none. `effort` (0 to 2) names the intra modes that are tried; `key` is the distance of IDR pictures.
+    ///
+    /// # Errors
+    ///
+    /// `NoMemory` where the allocator refuses a picture.
+    pub fn new(alloc: Global, size: Size, effort: u32, key: u32) -> Result<Encoder, NoMemory>
+        requires { effort ≤ 2 }
+        ensures settings { IfOk result (λ encoder. encoder.settings ≡ record { size = size; effort = effort; key = key }) }
+        ensures fresh { IfOk result (λ encoder. StandsFor encoder []) }
+    {
+        let last = Arc::new(alloc, Picture::black(alloc, size)?)?;
+        Ok(Encoder {
+            alloc,
+            effort,
+            key,
+            count: 0,
+            last,
+        })
+    }
+
+    /// The first piece of the stream: the parameter sets.
+    ///
+    /// # Errors
+    ///
+    /// `NoMemory` where the allocator refuses the bytes.
+    pub fn first(&self) -> Result<Vec<u8>, NoMemory>
+        ensures piece { IfOk result (λ piece. pieces self.now.settings [] ≡ piece.items ∷ []) }
+        ensures short { IfOk result (λ piece. length piece.items < 2 ^ 40) }
+    {
+        let size = self.last.size();
+        let piece = write_params(self.alloc, &Params { size })?;
+        Ok(piece)
+    }
+
+    /// Lays a job over the picture before, codes the picture that it gives on the caller's thread, and gives its piece of the stream: a start code
+    /// and a NAL unit.
+    ///
+    /// The job has the number of the pictures before. Where it lists all tiles in which the new picture differs, the piece is the one that the
+    /// definition has for that picture, of any pictures before that the encoder stands for.
+    ///
+    /// # Errors
+    ///
+    /// `NoMemory` where the allocator refuses something. The encoder is then as it was, and any call may follow.
+    pub fn next_alone(&mut self, job: &Job) -> Result<Vec<u8>, NoMemory>
+        requires job { IsJobOf self.old.settings.size job.now }
+        requires number { job.now.number ≡ self.old.count }
+        requires few { self.old.count < 2 ^ 32 - 1 }
+        ensures settings { self.new.settings ≡ self.old.settings }
+        ensures coded { OnOk result ((before : List Raster) (now : Raster) → StandsFor self.old before → TurnsInto job.now self.old.last now
+            → StandsFor self.new (before ++ now ∷ [])) }
+        ensures piece { IfOk result (λ piece. (before : List Raster) (now : Raster) → StandsFor self.old before → TurnsInto job.now self.old.last now
+            → pieces self.old.settings (before ++ now ∷ []) ≡ pieces self.old.settings before ++ piece.items ∷ []) }
+        ensures short { IfOk result (λ piece. length piece.items < 2 ^ 40) }
+        ensures err { OnErr result (self.new ≡ self.old) }
+    {
+        let touched = flags_of(self.alloc, self.last.size(), job.tiles.as_slice())?;
+        let now = self.picture_after(job)?;
+        let piece = self.piece(&now, &touched)?;
+        self.last = now;
+        self.count += 1;
+        Ok(piece)
+    }
+
+    // The picture that a job makes of the last one.
+    fn picture_after(&self, job: &Job) -> Result<Arc<Picture, Global>, NoMemory>
+        requires { IsJobOf self.now.settings.size job.now }
+        ensures size { IfOk result (λ now. (arc_value now).size ≡ self.now.settings.size) }
+        ensures shows { IfOk result (λ now. (shown : Raster) → TurnsInto job.now self.now.last shown → Shows (arc_value now) shown) }
+        ensures kept { IfOk result (λ now. IsKeptBut job.now.tiles self.now.last (arc_value now)) }
+    {
+        let mut now = self.last.twin()?;
+        now.lay(job);
+        Ok(Arc::new(self.alloc, now)?)
+    }
+
+    // The piece of a picture that is the last one but for tiles that have a flag.
+    fn piece(&self, now: &Arc<Picture, Global>, touched: &[bool]) -> Result<Vec<u8>, NoMemory>
+        requires { IsKept touched.now self.now.last (arc_value now.now) }
+        ensures piece { IfOk result (λ piece. piece.items ≡ piece_of self.now (arc_value now.now)) }
+        ensures short { IfOk result (λ piece. length piece.items < 2 ^ 40) }
+    {
+        let task = Task {
+            last: &self.last,
+            current: now,
+            idr: is_idr(self.key, self.count),
+            effort: self.effort,
+            touched,
+        };
+        let piece = code_picture(self.alloc, &task, order_bits(self.key, self.count))?;
+        Ok(piece)
+    }
+}
+
+#[cfg(test)]
+mod tests;
