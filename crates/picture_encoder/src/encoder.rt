@@ -1,5 +1,5 @@
 //! The encoder of a recording.
-ghost use Rattle.std.specs.Prelude.{◌≡◌, ◌≤◌, ◌<◌, ◌-◌, ◌^◌, List, [], ◌∷◌, ◌++◌, IfOk, OnOk, OnErr};
+ghost use Rattle.std.specs.Prelude.{◌≡◌, ◌≤◌, ◌<◌, ◌-◌, ◌^◌, List, [], ◌∷◌, ◌++◌, length, IfOk, OnOk, OnErr};
 ghost use Rattle.std.specs.Arc.{arc_value};
 ghost use Rattle.h265_model.specs.Raster.{Raster};
 ghost use Rattle.h265_model.specs.Stream.{pieces};
@@ -52,6 +52,7 @@ impl Encoder {
     pub fn new(alloc: Global, size: Size, effort: u32, key: u32) -> Result<Encoder, NoMemory>
         requires { effort ≤ 2 }
         ensures settings { IfOk result (λ encoder. encoder.settings ≡ record { size = size; effort = effort; key = key }) }
+        ensures sized { IfOk result (λ encoder. encoder.last.size ≡ encoder.settings.size) }
         ensures fresh { IfOk result (λ encoder. StandsFor encoder []) }
     {
         let last = Arc::new(alloc, Picture::black(alloc, size)?)?;
@@ -70,7 +71,8 @@ impl Encoder {
     ///
     /// `NoMemory` where the allocator refuses the bytes.
     pub fn first(&self) -> Result<Vec<u8>, NoMemory>
-        ensures { IfOk result (λ piece. pieces self.now.settings [] ≡ piece.items ∷ []) }
+        ensures piece { IfOk result (λ piece. pieces self.now.settings [] ≡ piece.items ∷ []) }
+        ensures short { IfOk result (λ piece. length piece.items < 2 ^ 40) }
     {
         write_params(
             self.alloc,
@@ -94,10 +96,12 @@ impl Encoder {
         requires number { job.now.number ≡ self.old.count }
         requires few { self.old.count < 2 ^ 32 - 1 }
         ensures settings { self.new.settings ≡ self.old.settings }
+        ensures sized { self.new.last.size ≡ self.new.settings.size }
         ensures coded { OnOk result ((before : List Raster) (now : Raster) → StandsFor self.old before → TurnsInto job.now self.old.last now
             → StandsFor self.new (before ++ now ∷ [])) }
         ensures piece { IfOk result (λ piece. (before : List Raster) (now : Raster) → StandsFor self.old before → TurnsInto job.now self.old.last now
             → pieces self.old.settings (before ++ now ∷ []) ≡ pieces self.old.settings before ++ piece.items ∷ []) }
+        ensures short { IfOk result (λ piece. length piece.items < 2 ^ 40) }
         ensures err { OnErr result (self.new ≡ self.old) }
     {
         let mut now = self.last.twin()?;

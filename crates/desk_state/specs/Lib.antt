@@ -1,0 +1,5 @@
+pub mod Accepting
+pub mod Replays
+pub mod Standing
+pub mod Inside
+pub mod Laws
