@@ -1,23 +1,23 @@
 -- What one more line makes of a stage.
 use Rattle.std.proofs.Common.{◌≡◌, ℕ, zero, suc, ◌+◌, ◌<◌, false, true, List, [], ◌∷◌, ◌++◌, length, get_or, refl, sym, ap, subst, ◌∙◌, arith}
 use Rattle.std.proofs.lemmas.List.{append-nil, get_or_at}
-use Rattle.std.specs.Prelude.{count_by, None}
+use Rattle.std.specs.Prelude.{count_by, None, Result, Ok, Err, IfOk}
 use Rattle.std.specs.List.{last_or}
 use Rattle.h265_model.specs.declared.entry.Entry.{Entry}
 use Rattle.h265_model.specs.declared.line.Job.{Job}
 use Rattle.h265_model.specs.declared.line.Line.{Line}
 use Rattle.h265_model.specs.declared.line.Line.TheVariants.{Fill, Blit, Cut}
-use Rattle.h265_model.specs.Plain.{Size, joined}
+use Rattle.h265_model.specs.Plain.{Size, Picture, joined}
 use Rattle.h265_model.specs.Words.{Settings}
 use Rattle.h265_model.specs.Setting.{Setting}
 use Rattle.h265_model.specs.Script.{is_cut}
-use Rattle.h265_model.specs.Raster.{Raster, raster, rasters_after, lines_of}
+use Rattle.h265_model.specs.Raster.{Raster, raster, rasters_after, lines_of, coded_picture}
 use Rattle.h265_model.specs.Histories.{own_order, cuts}
 use Rattle.h265_model.specs.Desk.{job_for, job_of, touched_by}
 use Rattle.h265_model.specs.Stream.{pieces}
 use Rattle.h265_laws.proofs.PlayLaws.{lines_of-own_order, pictures-own_order, cuts-own_order, pieces-append}
 use Rattle.px_plane.specs.Planes.{Planes, Shows, ShowsLines}
-use Rattle.px_plane.specs.Tiles.{IsJobOf}
+use Rattle.px_plane.specs.Tiles.{IsJobOf, DiffersOnlyIn}
 use Rattle.desk_surface.specs.Damage.{Painted, IsFlagged}
 use Rattle.desk_state.specs.Laws.{LeadsOn, shown_at, shown_before}
 use Rattle.desk_state.specs.Replays.{part_of}
@@ -94,9 +94,13 @@ job_turns size done last job sized shows is =
     let made : job ≡ job_for last.size job.number job.tiles (raster size done) =
     is ∙ ap (λ (j : Job). job_for size j.number j.tiles (raster size done)) (sym is)
     ∙ ap (λ (s : Size). job_for s job.number job.tiles (raster size done)) (sym sized) in
+    let listed : (job_of (setting_at size done) (order_at done) (count_by is_cut done)).tiles ≡ job.tiles = ap (λ (j : Job). j.tiles) (job_is size done ∙ sym is) in
+    let next : coded_picture size (shown_at (setting_at size done) (order_at done) (count_by is_cut done)) ≡ coded_picture last.size (raster size done) =
+    ap (coded_picture size) (shown_is size done) ∙ ap (λ (s : Size). coded_picture s (raster size done)) (sym sized) in
     record {
       samples = made;
-      elsewhere = rw (sized, is) (rw (job_is size done, shown_is size done) at (law.differs last sized before));
+      elsewhere = subst (λ (tiles : List ℕ). DiffersOnlyIn tiles last (coded_picture last.size (raster size done))) listed
+          (subst (λ (picture : Picture). DiffersOnlyIn (job_of (setting_at size done) (order_at done) (count_by is_cut done)).tiles last picture) next (law.differs last sized before));
     }
 
 -- ---- a stage
@@ -201,6 +205,11 @@ piece_is settings done piece e =
     ∙ get_or_at before (cut_piece settings done) [] [] n refl
 
 -- the parameter sets are the stream of no lines
-pub first_is : (settings : Settings) (piece : List ℕ) → pieces settings [] ≡ piece ∷ [] → piece ≡ stream_after settings []
+first_is : (settings : Settings) (piece : List ℕ) → pieces settings [] ≡ piece ∷ [] → piece ≡ stream_after settings []
 unfolding rasters_after
 first_is settings piece e = sym (append-nil piece) ∙ ap joined (sym e)
+
+pub first_so : {V E : Type 0} (items : V → List ℕ) (settings : Settings) (result : Result V E) → IfOk result (λ v. pieces settings [] ≡ items v ∷ []) →
+    IfOk result (λ v. items v ≡ stream_after settings [])
+first_so items settings (Ok v) e = first_is settings (items v) e
+first_so items settings (Err error) e = tt
