@@ -64,8 +64,8 @@ before_is : (size : Size) (done : List Line) (n : ℕ) → length (rasters_after
 before_is size done zero e = none_is (raster size []) (rasters_after size [] done) e
 before_is size done (suc n) e =
     sym (
-      ap (λ (rs : List Raster). get_or rs n []) (pictures-own_order size (done ++ Cut ∷ []) ∙ rasters_cut size [] done)
-      ∙ last_is (raster size []) (rasters_after size [] done) (raster size done) n e
+    ap (λ (rs : List Raster). get_or rs n []) (pictures-own_order size (done ++ Cut ∷ []) ∙ rasters_cut size [] done)
+    ∙ last_is (raster size []) (rasters_after size [] done) (raster size done) n e
     )
 
 abbrev job_at : Size → List Line → Job

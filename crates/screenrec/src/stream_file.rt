@@ -28,11 +28,7 @@ pub struct Ending {
 }
 
 // Cuts a picture, appends its piece, and tells the length of the piece.
-fn append_picture<F: Shelf>(
-    stage: &mut Stage,
-    name: &str,
-    shelf: &mut F,
-) -> Result<u64, WriteError>
+fn append_picture<F: Shelf>(stage: &mut Stage, name: &str, shelf: &mut F) -> Result<u64, WriteError>
     requires played { IsPlayed stage.old }
     requires few { stage.old.cuts < 2 ^ 32 - 1 }
     ensures played { OnOk result ((settings : table.Settings) (done : List Line) → HasPlayed settings stage.old done → HasPlayed settings stage.new (done ++ line.Cut ∷ [])) }

@@ -21,5 +21,5 @@ returns-clause-files g c =
     let own : c.in-Ok.order ≡ own_order (c.args.script.now ∷ []) =
     c.in-Ok.ensures ∙ ap (λ (n : ℕ). map (λ (index : ℕ). entry.Line 0 index) (range_with_len 0 n)) c.lines.ensures.value in
     whole_files (serial_view c.args.words.now) (g.F.Shelf.files c.args.shelf.now) (g.F.Shelf.files c.write_stream.new.shelf) c.args.script.now c.in-Ok.order
-    c.in-Ok-write_stream.ending.written c.report_script-status.result c.report_script-status.ensures.status (c.w.ensures.within, c.requires.within.0) c.lines.ensures.spellable own
+    c.in-Ok-write_stream.ending.written c.report_script-status.result c.report_script-status.ensures.status (c.w-width.ensures.within, c.requires.within.0) c.lines.ensures.spellable own
     (rw c.in_default-result.is at c.in-Ok-write_stream.ensures.files)
