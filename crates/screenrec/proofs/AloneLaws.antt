@@ -1,6 +1,6 @@
 -- One script alone: its report, and what stands after each status.
-use Rattle.std.proofs.Common.{◌≡◌, ◌≢◌, ℕ, zero, suc, ◌+◌, ◌-◌, ◌≤◌, Bool, true, false, cond, List, [], ◌∷◌, ◌++◌, length, take, Option, Some, None, Result, Ok, Err, inl, inr, refl, sym, ◌∙◌, ap, subst, arith}
-use Rattle.std.specs.Prelude.{count_by, not, IsOk, IsTrue, fold, slice_index_or, ◌⊎◌}
+use Rattle.std.proofs.Common.{◌≡◌, ℕ, suc, ◌+◌, ◌-◌, ◌≤◌, Bool, true, false, cond, List, [], ◌∷◌, ◌++◌, length, take, Option, Ok, Err, inr, refl, sym, ◌∙◌, ap, subst, arith}
+use Rattle.std.specs.Prelude.{count_by, not, IsTrue, fold, slice_index_or}
 use Rattle.std.specs.List.{All, AllByRecursion}
 use Rattle.std.specs.FinMap.{insert}
 use Rattle.std.proofs.Math.Seq.{take-length}
@@ -20,7 +20,6 @@ use Rattle.h265_model.specs.Headline.{report_of, IsRecorded, IsCutShort}
 use Rattle.h265_model.specs.Files.{Files, IsPrefix, WhereTold}
 use Rattle.edges.specs.declared.sink.WriteError.{WriteError}
 use Rattle.edges.specs.declared.sink.WriteError.TheVariants as write
-use Rattle.edges.specs.Sink.{Writes}
 use Rattle.h265_laws.proofs.PlayLaws.{cuts-own_order, paints-own_order, pictures-own_order, own_order-is_lawful, each_picture_is_raster}
 use Rattle.h265_laws.proofs.StreamLaw.{each_stream_is_decoded}
 use Rattle.paint_script.specs.Spellable.{IsSpellable, AreSpellable, IsSpellableColour}
@@ -28,7 +27,7 @@ use Rattle.screenrec.specs.Stored.{IsStored, EndsIn}
 use Rattle.screenrec.specs.Recording.{Alone, serial_task, IsPlayedOut, IsPlayedInPart, scripts_in, IsFinished, IsBroken}
 use Rattle.screenrec.specs.declared.outcome.Status.{Status}
 use Rattle.screenrec.specs.declared.outcome.Status.TheVariants as status
-use Rattle.screenrec.specs.Alone.{ReportsScript, sink_status, IsOfReport, LeavesScript}
+use Rattle.screenrec.specs.Alone.{sink_status, IsOfReport, LeavesScript}
 use Rattle.screenrec.proofs.StoredLaws.{told_as, holds}
 
 -- ---- the report

@@ -1,12 +1,11 @@
 -- What one more line makes of a stage.
-use Rattle.std.proofs.Common.{◌≡◌, ℕ, zero, suc, ◌+◌, ◌<◌, false, true, List, [], ◌∷◌, ◌++◌, length, get_or, refl, sym, ap, subst, ◌∙◌, arith}
+use Rattle.std.proofs.Common.{◌≡◌, ℕ, zero, suc, ◌+◌, false, List, [], ◌∷◌, ◌++◌, length, get_or, refl, sym, ap, subst, ◌∙◌, arith}
 use Rattle.std.proofs.lemmas.List.{append-nil, get_or_at}
-use Rattle.std.specs.Prelude.{count_by, None, Result, Ok, Err, IfOk}
-use Rattle.std.specs.List.{last_or}
+use Rattle.std.specs.Prelude.{count_by, Result, Ok, Err, IfOk}
 use Rattle.h265_model.specs.declared.entry.Entry.{Entry}
 use Rattle.h265_model.specs.declared.line.Job.{Job}
 use Rattle.h265_model.specs.declared.line.Line.{Line}
-use Rattle.h265_model.specs.declared.line.Line.TheVariants.{Fill, Blit, Cut}
+use Rattle.h265_model.specs.declared.line.Line.TheVariants.{Cut}
 use Rattle.h265_model.specs.Plain.{Size, Picture, joined}
 use Rattle.h265_model.specs.Words.{Settings}
 use Rattle.h265_model.specs.Setting.{Setting}

@@ -3,7 +3,7 @@ mod cases;
 
 use super::*;
 use cases::{CASES, Case};
-use edges::{CalmShelf, MemoryShelf, MemorySink};
+use edges::{CalmShelf, MemorySink};
 use std::test::Fail;
 
 // The digest FNV-1a of 64 bits.
@@ -152,37 +152,6 @@ fn limits(rt: HostRuntime) -> Result<(), Fail> {
         refused(&rt, &words, &paint)?,
         Status::Limit { which: more }
     );
-    Ok(())
-}
-
-// Two equal pictures over a shelf on which one write takes some bytes and fails: the status, the bytes counted and stored.
-fn stopped<R: std::process::Abort + AllocGlobal>(
-    rt: &R,
-    failing: (u32, u32),
-) -> Result<(Status, u64, Option<usize>), Fail> {
-    let alloc = rt.alloc();
-    let mut shelf = MemoryShelf::new(alloc, &[], &[failing])?;
-    shelf.put("f", b"cut\ncut\n")?;
-    let mut report = MemorySink::new(alloc, &[])?;
-    let words = ["serial", "32x32", "0", "0", "o", "f"];
-    let outcome = run_serial(alloc, &words, &mut shelf, &mut report);
-    assert!(rt; report.text().is_empty());
-    let stored = shelf.file("o").map(|stream| stream.len());
-    Ok((outcome.status, outcome.written, stored))
-}
-
-#[test]
-fn writes_that_fail(rt: HostRuntime) -> Result<(), Fail> {
-    let rows = [
-        ((3, 5), 4693, Some(4698)),
-        ((2, 0), 74, Some(74)),
-        ((1, 73), 0, Some(73)),
-        ((0, 0), 0, None),
-    ];
-    for (failing, written, stored) in rows {
-        let found = stopped(&rt, failing)?;
-        assert!(rt; found == (Status::SinkFault, written, stored));
-    }
     Ok(())
 }
 

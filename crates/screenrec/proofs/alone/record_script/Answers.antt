@@ -1,6 +1,5 @@
-use Rattle.std.proofs.Common.{◌≡◌, ◌∙◌, ◌∷◌, [], ℕ, List, ap, map}
+use Rattle.std.proofs.Common.{◌≡◌, ◌∙◌, ◌∷◌, [], ℕ, ap, map}
 use Rattle.std.specs.List.{range_with_len}
-use Rattle.h265_model.specs.declared.entry.Entry.{Entry}
 use Rattle.h265_model.specs.declared.entry.Entry.TheVariants as entry
 use Rattle.h265_model.specs.Histories.{own_order}
 use Rattle.screenrec.specs.Served.{serial_view}

@@ -1,4 +1,4 @@
-use Rattle.std.proofs.Common.{◌≡◌, false, refl, length}
+use Rattle.std.proofs.Common.{◌≡◌, false, refl}
 use Rattle.h265_model.specs.declared.line.Line.{Line}
 use Rattle.h265_model.specs.declared.line.Line.TheVariants.{Fill, Blit, Cut}
 use Rattle.h265_model.specs.Script.{is_cut}
