@@ -1,6 +1,6 @@
 -- One script alone: its report, and what stands after each status.
-use Rattle.std.proofs.Common.{◌≡◌, ◌≢◌, ℕ, zero, suc, ◌+◌, ◌-◌, ◌≤◌, Bool, true, false, cond, List, [], ◌∷◌, ◌++◌, length, take, Option, Some, None, Result, Ok, Err, inl, inr, refl, sym, ◌∙◌, ap, subst, arith}
-use Rattle.std.specs.Prelude.{count_by, not, IsOk, fold, slice_index_or, ◌⊎◌}
+use Rattle.std.proofs.Common.{◌≡◌, ℕ, suc, ◌+◌, ◌-◌, ◌≤◌, Bool, true, false, cond, List, [], ◌∷◌, ◌++◌, length, take, Option, Ok, Err, inr, refl, sym, ◌∙◌, ap, subst, arith}
+use Rattle.std.specs.Prelude.{count_by, not, IsTrue, fold, slice_index_or}
 use Rattle.std.specs.List.{All, AllByRecursion}
 use Rattle.std.specs.FinMap.{insert}
 use Rattle.std.proofs.Math.Seq.{take-length}
@@ -8,7 +8,8 @@ use Rattle.std.proofs.lemmas.List.{append-nil}
 use Rattle.h265_model.specs.declared.entry.Entry.{Entry}
 use Rattle.h265_model.specs.declared.line.Line.{Line}
 use Rattle.h265_model.specs.declared.line.Line.TheVariants.{Fill, Blit, Cut}
-use Rattle.h265_model.specs.Plain.{joined}
+use Rattle.h265_model.specs.Plain.{Size, joined}
+use Rattle.h265_model.specs.Words.{SerialWords, is_size}
 use Rattle.h265_model.specs.Raster.{Raster, IsColour, HasColours, pictures, rasters_after}
 use Rattle.h265_model.specs.Stream.{pieces, stream_of}
 use Rattle.h265_model.specs.Decode.{decode}
@@ -19,16 +20,14 @@ use Rattle.h265_model.specs.Headline.{report_of, IsRecorded, IsCutShort}
 use Rattle.h265_model.specs.Files.{Files, IsPrefix, WhereTold}
 use Rattle.edges.specs.declared.sink.WriteError.{WriteError}
 use Rattle.edges.specs.declared.sink.WriteError.TheVariants as write
-use Rattle.edges.specs.Sink.{Writes}
 use Rattle.h265_laws.proofs.PlayLaws.{cuts-own_order, paints-own_order, pictures-own_order, own_order-is_lawful, each_picture_is_raster}
 use Rattle.h265_laws.proofs.StreamLaw.{each_stream_is_decoded}
 use Rattle.paint_script.specs.Spellable.{IsSpellable, AreSpellable, IsSpellableColour}
-use Rattle.screenrec.specs.Built.{built, one_ctu}
 use Rattle.screenrec.specs.Stored.{IsStored, EndsIn}
-use Rattle.screenrec.specs.Recording.{Alone, IsPlayedOut, IsPlayedInPart, scripts_in, IsFinished, IsBroken}
+use Rattle.screenrec.specs.Recording.{Alone, serial_task, IsPlayedOut, IsPlayedInPart, scripts_in, IsFinished, IsBroken}
 use Rattle.screenrec.specs.declared.outcome.Status.{Status}
 use Rattle.screenrec.specs.declared.outcome.Status.TheVariants as status
-use Rattle.screenrec.specs.Alone.{ReportsScript, alone_task, sink_status, IsOfReport, LeavesScript}
+use Rattle.screenrec.specs.Alone.{sink_status, IsOfReport, LeavesScript}
 use Rattle.screenrec.proofs.StoredLaws.{told_as, holds}
 
 -- ---- the report
@@ -87,96 +86,103 @@ have_colours script h = all_by HasColours script (λ k d l. colours_of (slice_in
 
 -- ---- what stands after each status
 
-pictures_are : (script : List Line) (order : List Entry) → order ≡ own_order (script ∷ []) → pictures one_ctu (script ∷ []) order ≡ rasters_after one_ctu [] script
-pictures_are script order own = ap (pictures one_ctu (script ∷ [])) own ∙ pictures-own_order one_ctu script
+pictures_are : (size : Size) (script : List Line) (order : List Entry) → order ≡ own_order (script ∷ []) → pictures size (script ∷ []) order ≡ rasters_after size [] script
+pictures_are size script order own = ap (pictures size (script ∷ [])) own ∙ pictures-own_order size script
 
-decoded : (script : List Line) → AreSpellable script → decode (stream_of built (rasters_after one_ctu [] script)) ≡ Ok (one_ctu, rasters_after one_ctu [] script)
-decoded script spelled =
-    each_stream_is_decoded built (rasters_after one_ctu [] script) refl (omega arith) (each_picture_is_raster one_ctu script (have_colours script spelled))
+-- settings within the limits
+abbrev pub AreWithin : SerialWords → Type 0
+AreWithin words = IsTrue (is_size words.settings.size) × (words.settings.effort ≤ 2)
 
-recorded : (out : List ℕ) (script : List Line) (order : List Entry) (before after : Files) (written : ℕ) → AreSpellable script → order ≡ own_order (script ∷ []) →
-    IsStored out script before after written → IsRecorded built out (pictures one_ctu (script ∷ []) order) before after written
-recorded out script order before after written spelled own s =
-    subst (λ (ps : List Raster). IsRecorded built out ps before after written) (sym (pictures_are script order own))
-    (record { stored = s.stored; decodes = decoded script spelled; counted = s.counted })
+module _ (words : SerialWords) where
+  decoded : (script : List Line) → AreWithin words → AreSpellable script →
+      decode (stream_of words.settings (rasters_after words.settings.size [] script)) ≡ Ok (words.settings.size, rasters_after words.settings.size [] script)
+  decoded script within spelled =
+      each_stream_is_decoded words.settings (rasters_after words.settings.size [] script) within.0 within.1
+      (each_picture_is_raster words.settings.size script (have_colours script spelled))
 
-cut_short_of : (out : List ℕ) (script : List Line) (order : List Entry) (before after : Files) (written : ℕ) → order ≡ own_order (script ∷ []) →
-    IsCutShort built out (rasters_after one_ctu [] script) before after written → IsCutShort built out (pictures one_ctu (script ∷ []) order) before after written
-cut_short_of out script order before after written own s =
-    subst (λ (ps : List Raster). IsCutShort built out ps before after written) (sym (pictures_are script order own)) s
+  recorded : (script : List Line) (order : List Entry) (before after : Files) (written : ℕ) → AreWithin words → AreSpellable script → order ≡ own_order (script ∷ []) →
+      IsStored words.settings words.out script before after written → IsRecorded words.settings words.out (pictures words.settings.size (script ∷ []) order) before after written
+  recorded script order before after written within spelled own s =
+      subst (λ (ps : List Raster). IsRecorded words.settings words.out ps before after written) (sym (pictures_are words.settings.size script order own))
+      (record { stored = s.stored; decodes = decoded script within spelled; counted = s.counted })
 
--- a whole stream is one that is cut short at its end
-whole_cut : (out : List ℕ) (script : List Line) (before after : Files) (written : ℕ) → IsStored out script before after written →
-    IsCutShort built out (rasters_after one_ctu [] script) before after written
-unfolding stream_of
-whole_cut out script before after written s =
-    let ps : List (List ℕ) = pieces built (rasters_after one_ctu [] script) in
-    let all : take (length ps) ps ≡ ps = take-length ps in
-    record {
-      whole = length ps;
-      part = [];
-      is_part = (slice_index_or ps (length ps) [], refl);
-      stored = s.stored ∙ ap (insert before out) (sym (append-nil (joined (take (length ps) ps)) ∙ ap joined all));
-      counted = s.counted ∙ ap (λ (l : List (List ℕ)). length (joined l)) (sym all);
-    }
+  cut_short_of : (script : List Line) (order : List Entry) (before after : Files) (written : ℕ) → order ≡ own_order (script ∷ []) →
+      IsCutShort words.settings words.out (rasters_after words.settings.size [] script) before after written → IsCutShort words.settings words.out (pictures words.settings.size (script ∷ []) order) before after written
+  cut_short_of script order before after written own s =
+      subst (λ (ps : List Raster). IsCutShort words.settings words.out ps before after written) (sym (pictures_are words.settings.size script order own)) s
 
-finished : (out : List ℕ) (script : List Line) (order : List Entry) (before after : Files) (written : ℕ) (file : List ℕ) → AreSpellable script → order ≡ own_order (script ∷ []) →
-    IsStored out script before after written → scripts_in (alone_task out file) before ≡ Ok (script ∷ []) → IsFinished (alone_task out file) before after order written
-finished out script order before after written file spelled own s accepted = record {
-  scripts = script ∷ [];
-  accepted = accepted;
-  played = own;
-  recorded = recorded out script order before after written spelled own s;
-}
+  -- a whole stream is one that is cut short at its end
+  whole_cut : (script : List Line) (before after : Files) (written : ℕ) → IsStored words.settings words.out script before after written →
+      IsCutShort words.settings words.out (rasters_after words.settings.size [] script) before after written
+  unfolding stream_of
+  whole_cut script before after written s =
+      let ps : List (List ℕ) = pieces words.settings (rasters_after words.settings.size [] script) in
+      let all : take (length ps) ps ≡ ps = take-length ps in
+      record {
+        whole = length ps;
+        part = [];
+        is_part = (slice_index_or ps (length ps) [], refl);
+        stored = s.stored ∙ ap (insert before words.out) (sym (append-nil (joined (take (length ps) ps)) ∙ ap joined all));
+        counted = s.counted ∙ ap (λ (l : List (List ℕ)). length (joined l)) (sym all);
+      }
 
-broken : (out : List ℕ) (script : List Line) (order : List Entry) (before after : Files) (written : ℕ) (file : List ℕ) (Played : List (List Line) → List Entry → Type 0) →
-    order ≡ own_order (script ∷ []) → Played (script ∷ []) order →
-    IsCutShort built out (rasters_after one_ctu [] script) before after written → scripts_in (alone_task out file) before ≡ Ok (script ∷ []) →
-    IsBroken (alone_task out file) before after order written Played
-broken out script order before after written file Played own played s accepted = record {
-  scripts = script ∷ [];
-  accepted = accepted;
-  lawful = subst (IsLawful (script ∷ [])) (sym own) (own_order-is_lawful script);
-  played = played;
-  cut_short = cut_short_of out script order before after written own s;
-}
+  finished : (script : List Line) (order : List Entry) (before after : Files) (written : ℕ) → AreWithin words → AreSpellable script → order ≡ own_order (script ∷ []) →
+      IsStored words.settings words.out script before after written → scripts_in (serial_task words) before ≡ Ok (script ∷ []) → IsFinished (serial_task words) before after order written
+  finished script order before after written within spelled own s accepted = record {
+    scripts = script ∷ [];
+    accepted = accepted;
+    played = own;
+    recorded = recorded script order before after written within spelled own s;
+  }
 
-leaves_whole : (out : List ℕ) (script : List Line) (order : List Entry) (written : ℕ) (answer : Status) (x y : Files) → IsOfReport answer → AreSpellable script →
-    order ≡ own_order (script ∷ []) → IsStored out script x y written → LeavesScript out script x y order written answer
-leaves_whole out script order written status.Ok x y kind spelled own s = λ file accepted. finished out script order x y written file spelled own s accepted
-leaves_whole out script order written status.ReportFault x y kind spelled own s = λ file accepted. finished out script order x y written file spelled own s accepted
-leaves_whole out script order written status.NoMemory x y kind spelled own s = λ file accepted.
-    inr (
-      broken out script order x y written file (IsPlayedInPart Alone) own own (whole_cut out script x y written s) accepted,
-      s.counted ∙ holds x y out (stream_of built (rasters_after one_ctu [] script)) s.stored,
-    )
-leaves_whole out script order written status.Usage x y kind spelled own s = absurd kind
-leaves_whole out script order written (status.BadPaint f l c) x y kind spelled own s = absurd kind
-leaves_whole out script order written (status.Limit w) x y kind spelled own s = absurd kind
-leaves_whole out script order written (status.InputFault f) x y kind spelled own s = absurd kind
-leaves_whole out script order written status.SinkFault x y kind spelled own s = absurd kind
-leaves_whole out script order written (status.TooLarge f) x y kind spelled own s = absurd kind
-leaves_whole out script order written (status.BadStream at) x y kind spelled own s = absurd kind
-leaves_whole out script order written (status.NotBuilt form) x y kind spelled own s = absurd kind
+  broken : (script : List Line) (order : List Entry) (before after : Files) (written : ℕ) (Played : List (List Line) → List Entry → Type 0) →
+      order ≡ own_order (script ∷ []) → Played (script ∷ []) order →
+      IsCutShort words.settings words.out (rasters_after words.settings.size [] script) before after written → scripts_in (serial_task words) before ≡ Ok (script ∷ []) →
+      IsBroken (serial_task words) before after order written Played
+  broken script order before after written Played own played s accepted = record {
+    scripts = script ∷ [];
+    accepted = accepted;
+    lawful = subst (IsLawful (script ∷ [])) (sym own) (own_order-is_lawful script);
+    played = played;
+    cut_short = cut_short_of script order before after written own s;
+  }
 
-pub whole_files : (a b : Option Files) (out : List ℕ) (script : List Line) (order : List Entry) (written : ℕ) (answer : Status) → IsOfReport answer → AreSpellable script →
-    order ≡ own_order (script ∷ []) → WhereTold a b (λ before after. IsStored out script before after written) →
-    WhereTold a b (λ before after. LeavesScript out script before after order written answer)
-whole_files a b out script order written answer kind spelled own told =
-    told_as a b (λ before after. IsStored out script before after written) (λ before after. LeavesScript out script before after order written answer) told
-    (λ x y s. leaves_whole out script order written answer x y kind spelled own s)
+  leaves_whole : (script : List Line) (order : List Entry) (written : ℕ) (answer : Status) (x y : Files) → IsOfReport answer → AreWithin words → AreSpellable script →
+      order ≡ own_order (script ∷ []) → IsStored words.settings words.out script x y written → LeavesScript words script x y order written answer
+  leaves_whole script order written status.Ok x y kind within spelled own s = λ accepted. finished script order x y written within spelled own s accepted
+  leaves_whole script order written status.ReportFault x y kind within spelled own s = λ accepted. finished script order x y written within spelled own s accepted
+  leaves_whole script order written status.NoMemory x y kind within spelled own s = λ accepted.
+      inr (
+        broken script order x y written (IsPlayedInPart Alone) own own (whole_cut script x y written s) accepted,
+        s.counted ∙ holds x y words.out (stream_of words.settings (rasters_after words.settings.size [] script)) s.stored,
+      )
+  leaves_whole script order written status.Usage x y kind within spelled own s = absurd kind
+  leaves_whole script order written (status.BadPaint f l c) x y kind within spelled own s = absurd kind
+  leaves_whole script order written (status.Limit w) x y kind within spelled own s = absurd kind
+  leaves_whole script order written (status.InputFault f) x y kind within spelled own s = absurd kind
+  leaves_whole script order written status.SinkFault x y kind within spelled own s = absurd kind
+  leaves_whole script order written (status.TooLarge f) x y kind within spelled own s = absurd kind
+  leaves_whole script order written (status.BadStream at) x y kind within spelled own s = absurd kind
+  leaves_whole script order written (status.NotBuilt form) x y kind within spelled own s = absurd kind
 
-leaves_stopped : (out : List ℕ) (script : List Line) (order : List Entry) (written : ℕ) (error : WriteError) (x y : Files) → order ≡ own_order (script ∷ []) →
-    EndsIn out script x y (Err error) written → LeavesScript out script x y order written (sink_status error)
-leaves_stopped out script order written write.Failed x y own s = λ file accepted.
-    inr (broken out script order x y written file (IsPlayedOut Alone) own own s accepted)
-leaves_stopped out script order written write.NoMemory x y own s = λ file accepted.
-    inr (broken out script order x y written file (IsPlayedInPart Alone) own own s.0 accepted, s.1)
+  pub whole_files : (a b : Option Files) (script : List Line) (order : List Entry) (written : ℕ) (answer : Status) → IsOfReport answer → AreWithin words → AreSpellable script →
+      order ≡ own_order (script ∷ []) → WhereTold a b (λ before after. IsStored words.settings words.out script before after written) →
+      WhereTold a b (λ before after. LeavesScript words script before after order written answer)
+  whole_files a b script order written answer kind within spelled own told =
+      told_as a b (λ before after. IsStored words.settings words.out script before after written) (λ before after. LeavesScript words script before after order written answer) told
+      (λ x y s. leaves_whole script order written answer x y kind within spelled own s)
 
-pub stopped_files : (a b : Option Files) (out : List ℕ) (script : List Line) (order : List Entry) (written : ℕ) (error : WriteError) →
-    order ≡ own_order (script ∷ []) → WhereTold a b (λ before after. EndsIn out script before after (Err error) written) →
-    WhereTold a b (λ before after. LeavesScript out script before after order written (sink_status error))
-stopped_files a b out script order written error own told =
-    told_as a b (λ before after. EndsIn out script before after (Err error) written)
-    (λ before after. LeavesScript out script before after order written (sink_status error)) told
-    (λ x y s. leaves_stopped out script order written error x y own s)
+  leaves_stopped : (script : List Line) (order : List Entry) (written : ℕ) (error : WriteError) (x y : Files) → order ≡ own_order (script ∷ []) →
+      EndsIn words.settings words.out script x y (Err error) written → LeavesScript words script x y order written (sink_status error)
+  leaves_stopped script order written write.Failed x y own s = λ accepted.
+      inr (broken script order x y written (IsPlayedOut Alone) own own s accepted)
+  leaves_stopped script order written write.NoMemory x y own s = λ accepted.
+      inr (broken script order x y written (IsPlayedInPart Alone) own own s.0 accepted, s.1)
+
+  pub stopped_files : (a b : Option Files) (script : List Line) (order : List Entry) (written : ℕ) (error : WriteError) →
+      order ≡ own_order (script ∷ []) → WhereTold a b (λ before after. EndsIn words.settings words.out script before after (Err error) written) →
+      WhereTold a b (λ before after. LeavesScript words script before after order written (sink_status error))
+  stopped_files a b script order written error own told =
+      told_as a b (λ before after. EndsIn words.settings words.out script before after (Err error) written)
+      (λ before after. LeavesScript words script before after order written (sink_status error)) told
+      (λ x y s. leaves_stopped script order written error x y own s)

@@ -1,6 +1,5 @@
-pub mod PcmLaw
+pub mod StageLaws
 pub mod StoredLaws
 pub mod AcceptedLaws
 pub mod AloneLaws
 pub mod RunLaws
-pub mod ServiceLaws

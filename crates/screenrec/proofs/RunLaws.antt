@@ -2,13 +2,13 @@
 use Rattle.std.proofs.Common.{◌≡◌, ℕ, List, [], ◌∷◌, take, Option, Err, inl, refl, sym, subst}
 use Rattle.std.specs.Prelude.{IsOk}
 use Rattle.h265_model.specs.declared.entry.Entry.{Entry}
+use Rattle.h265_model.specs.Words.{SerialWords}
 use Rattle.h265_model.specs.Headline.{IsUntouched, scripts_of, scripts_after, contents}
 use Rattle.h265_model.specs.Files.{Files, WhereTold, file_at}
 use Rattle.screenrec.specs.declared.outcome.Status.{Status}
 use Rattle.screenrec.specs.declared.outcome.Status.TheVariants as status
 use Rattle.screenrec.specs.Accepted.{Accepts, IsOfOneFile}
-use Rattle.screenrec.specs.Alone.{alone_task}
-use Rattle.screenrec.specs.Recording.{LeavesTask}
+use Rattle.screenrec.specs.Recording.{serial_task, LeavesTask}
 use Rattle.screenrec.proofs.StoredLaws.{told_as}
 
 untouched : (order : List Entry) (x y : Files) (written : ℕ) → order ≡ [] → written ≡ 0 → y ≡ x → IsUntouched order x y written
@@ -18,27 +18,27 @@ accepts_none : (x : Files) (file : List ℕ) → IsOk (scripts_of (take 0 (conte
 unfolding scripts_after
 accepts_none x file = refl
 
-leaves_refused : (out file : List ℕ) (s : Status) (order : List Entry) (written : ℕ) (x y : Files) → IsOfOneFile s → order ≡ [] → written ≡ 0 →
-    y ≡ x → Accepts (file_at x file) (Err s) → LeavesTask (alone_task out file) x y order written s
-leaves_refused out file (status.BadPaint f l c) order written x y h p q e a = record { refused = a; untouched = untouched order x y written p q e }
-leaves_refused out file (status.Limit w) order written x y h p q e a = record { refused = a; untouched = untouched order x y written p q e }
-leaves_refused out file (status.InputFault f) order written x y h p q e a = record {
-  accepted = subst (λ (n : ℕ). IsOk (scripts_of (take n (contents x (file ∷ []))))) (sym h) (accepts_none x file);
+leaves_refused : (words : SerialWords) (s : Status) (order : List Entry) (written : ℕ) (x y : Files) → IsOfOneFile s → order ≡ [] → written ≡ 0 →
+    y ≡ x → Accepts (file_at x words.file) (Err s) → LeavesTask (serial_task words) x y order written s
+leaves_refused words (status.BadPaint f l c) order written x y h p q e a = record { refused = a; untouched = untouched order x y written p q e }
+leaves_refused words (status.Limit w) order written x y h p q e a = record { refused = a; untouched = untouched order x y written p q e }
+leaves_refused words (status.InputFault f) order written x y h p q e a = record {
+  accepted = subst (λ (n : ℕ). IsOk (scripts_of (take n (contents x (words.file ∷ []))))) (sym h) (accepts_none x words.file);
   untouched = untouched order x y written p q e;
 }
-leaves_refused out file (status.TooLarge f) order written x y h p q e a = record { refused = a; untouched = untouched order x y written p q e }
-leaves_refused out file status.NoMemory order written x y h p q e a = inl (untouched order x y written p q e)
-leaves_refused out file status.Ok order written x y h p q e a = absurd h
-leaves_refused out file status.Usage order written x y h p q e a = absurd h
-leaves_refused out file status.SinkFault order written x y h p q e a = absurd h
-leaves_refused out file status.ReportFault order written x y h p q e a = absurd h
-leaves_refused out file (status.BadStream at) order written x y h p q e a = absurd h
-leaves_refused out file (status.NotBuilt form) order written x y h p q e a = absurd h
+leaves_refused words (status.TooLarge f) order written x y h p q e a = record { refused = a; untouched = untouched order x y written p q e }
+leaves_refused words status.NoMemory order written x y h p q e a = inl (untouched order x y written p q e)
+leaves_refused words status.Ok order written x y h p q e a = absurd h
+leaves_refused words status.Usage order written x y h p q e a = absurd h
+leaves_refused words status.SinkFault order written x y h p q e a = absurd h
+leaves_refused words status.ReportFault order written x y h p q e a = absurd h
+leaves_refused words (status.BadStream at) order written x y h p q e a = absurd h
+leaves_refused words (status.NotBuilt form) order written x y h p q e a = absurd h
 
-pub files_refused : (a b : Option Files) (out file : List ℕ) (s : Status) (order : List Entry) (written : ℕ) → IsOfOneFile s → order ≡ [] → written ≡ 0 →
-    WhereTold a b (λ before after. (after ≡ before) × Accepts (file_at before file) (Err s)) →
-    WhereTold a b (λ before after. LeavesTask (alone_task out file) before after order written s)
-files_refused a b out file s order written h p q told =
-    told_as a b (λ before after. (after ≡ before) × Accepts (file_at before file) (Err s))
-    (λ before after. LeavesTask (alone_task out file) before after order written s) told
-    (λ x y t. leaves_refused out file s order written x y h p q t.0 t.1)
+pub files_refused : (a b : Option Files) (words : SerialWords) (s : Status) (order : List Entry) (written : ℕ) → IsOfOneFile s → order ≡ [] → written ≡ 0 →
+    WhereTold a b (λ before after. (after ≡ before) × Accepts (file_at before words.file) (Err s)) →
+    WhereTold a b (λ before after. LeavesTask (serial_task words) before after order written s)
+files_refused a b words s order written h p q told =
+    told_as a b (λ before after. (after ≡ before) × Accepts (file_at before words.file) (Err s))
+    (λ before after. LeavesTask (serial_task words) before after order written s) told
+    (λ x y t. leaves_refused words s order written x y h p q t.0 t.1)

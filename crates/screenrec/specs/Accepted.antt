@@ -1,5 +1,5 @@
 -- Which scripts are accepted, and by which status a call refuses them.
-use Rattle.std.specs.Prelude.{◌≡◌, ◌≤◌, ℕ, List, [], ◌∷◌, length, Result, Ok, Err, OnOk}
+use Rattle.std.specs.Prelude.{◌≡◌, ◌≤◌, ℕ, List, [], ◌∷◌, Result, Ok, Err, OnOk}
 use Rattle.h265_model.specs.declared.line.Line.{Line}
 use Rattle.h265_model.specs.Files.{Rose}
 use Rattle.h265_model.specs.Headline.{Refusal, TooLarge, BadPaint, Limit, scripts_of}

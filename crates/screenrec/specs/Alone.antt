@@ -1,7 +1,8 @@
 -- One script alone: what stands once its file was accepted.
-use Rattle.std.specs.Prelude.{◌≡◌, ℕ, ◌+◌, ◌++◌, List, [], ◌∷◌, Result, Ok, Err}
+use Rattle.std.specs.Prelude.{◌≡◌, ℕ, ◌++◌, List, [], ◌∷◌, Result, Ok, Err}
 use Rattle.h265_model.specs.declared.entry.Entry.{Entry}
 use Rattle.h265_model.specs.declared.line.Line.{Line}
+use Rattle.h265_model.specs.Words.{SerialWords}
 use Rattle.h265_model.specs.Histories.{own_order}
 use Rattle.h265_model.specs.Files.{Files, IsPrefix}
 use Rattle.h265_model.specs.Headline.{report_of}
@@ -9,12 +10,7 @@ use Rattle.edges.specs.declared.sink.WriteError.{WriteError}
 use Rattle.edges.specs.declared.sink.WriteError.TheVariants as write
 use Rattle.screenrec.specs.declared.outcome.Status.{Status}
 use Rattle.screenrec.specs.declared.outcome.Status.TheVariants as status
-use Rattle.screenrec.specs.Built.{built}
-use Rattle.screenrec.specs.Recording.{Task, Alone, scripts_in, LeavesTask}
-
--- the recording of one file with the settings that are built
-abbrev pub alone_task : List ℕ → List ℕ → Task
-alone_task out file = record { settings = built; out = out; files = file ∷ []; playing = Alone }
+use Rattle.screenrec.specs.Recording.{serial_task, scripts_in, LeavesTask}
 
 -- the status of a failed write of the stream
 abbrev pub sink_status : WriteError → Status
@@ -44,9 +40,9 @@ IsOfReport status.NoMemory = Unit {0}
 IsOfReport _ = ⊥
 
 -- what stands, where the one file has this script
-abbrev pub LeavesScript : List ℕ → List Line → Files → Files → List Entry → ℕ → Status → Type 0
-LeavesScript out script before after order written answer =
-    (file : List ℕ) → scripts_in (alone_task out file) before ≡ Ok (script ∷ []) → LeavesTask (alone_task out file) before after order written answer
+abbrev pub LeavesScript : SerialWords → List Line → Files → Files → List Entry → ℕ → Status → Type 0
+LeavesScript words script before after order written answer =
+    scripts_in (serial_task words) before ≡ Ok (script ∷ []) → LeavesTask (serial_task words) before after order written answer
 
 -- what a status says of the writes of the stream
 abbrev pub sink_result : Status → Result (Unit {0}) WriteError

@@ -1,6 +1,7 @@
 -- How the writing of a stream ends.
 use Rattle.std.specs.Prelude.{◌≡◌, List, ℕ, Result, Ok, Err}
 use Rattle.h265_model.specs.declared.line.Line.{Line}
+use Rattle.h265_model.specs.Words.{Settings}
 use Rattle.h265_model.specs.Files.{Files}
 use Rattle.edges.specs.declared.sink.WriteError.{WriteError}
 use Rattle.screenrec.specs.declared.stream_file.Ending.{Ending}
@@ -12,6 +13,6 @@ ending_of (Ok ending) = ending.result
 ending_of (Err error) = Err error
 
 -- nothing was done, or the file was made, and the stream stands in it whole or in part
-abbrev pub EndsAnew : List ℕ → List Line → Files → Files → Result Ending WriteError → Type 0
-EndsAnew name lines before after (Ok ending) = EndsIn name lines before after ending.result ending.written
-EndsAnew name lines before after (Err error) = after ≡ before
+abbrev pub EndsAnew : Settings → List ℕ → List Line → Files → Files → Result Ending WriteError → Type 0
+EndsAnew settings name lines before after (Ok ending) = EndsIn settings name lines before after ending.result ending.written
+EndsAnew settings name lines before after (Err error) = after ≡ before

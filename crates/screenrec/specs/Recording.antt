@@ -1,5 +1,5 @@
 -- What the words `serial` and `record` promise. The two differ in the order of the clients' lines alone.
-use Rattle.std.specs.Prelude.{◌≡◌, ◌≢◌, ◌⊎◌, ◌==◌, ◌&&◌, not, if◌then◌else◌, ℕ, ◌<◌, ◌++◌, List, [], ◌∷◌, length, take, Option, Some, None, Result, Ok, Err, IsOk}
+use Rattle.std.specs.Prelude.{◌≡◌, ◌≢◌, ◌⊎◌, ℕ, ◌<◌, ◌++◌, List, [], ◌∷◌, length, take, Option, Some, None, Result, Ok, Err, IsOk}
 use Rattle.h265_model.specs.declared.entry.Entry.{Entry}
 use Rattle.h265_model.specs.declared.line.Line.{Line}
 use Rattle.h265_model.specs.Words.{Settings, SerialWords, RecordWords, Row, Record, Serial, Demo, Decode}
@@ -10,7 +10,7 @@ use Rattle.h265_model.specs.Headline.{Refusal, TooLarge, BadPaint, Limit, script
 use Rattle.screenrec.specs.declared.outcome.Status.{Status}
 use Rattle.screenrec.specs.declared.outcome.Status.TheVariants as status
 use Rattle.screenrec.specs.declared.outcome.Form.{Form}
-use Rattle.screenrec.specs.declared.outcome.Form.TheVariants.{Command, Size, Effort, Key}
+use Rattle.screenrec.specs.declared.outcome.Form.TheVariants.{Command}
 use Rattle.screenrec.specs.Answers.{Counts, NoneRose}
 
 -- ---- the order of a recording
@@ -109,29 +109,14 @@ module _ (task : Task) (before after : Files) (order : List Entry) (written : �
 
 -- ---- what a call does for its words
 
--- nothing, as they are in no row of its table; nothing yet, as a form isn't built; or a recording
+-- nothing, as they are in no row of its table; nothing yet, as the command isn't built; or a recording
 pub data Service : Type 0 where
   NoRow : Service
   NotYet : Form → Service
   Does : Task → Service
 
--- the first of these forms that isn't built yet
-abbrev pub unbuilt : Settings → Option Form
-unbuilt settings =
-    if not (settings.size.w == 32 && settings.size.h == 32) then Some Size
-    else if not (settings.effort == 0) then Some Effort
-    else if not (settings.key == 1) then Some Key
-    else None
-
-abbrev pub if_built : Option Form → Task → Service
-if_built None task = Does task
-if_built (Some form) task = NotYet form
-
-abbrev pub serial_words_service : SerialWords → Service
-serial_words_service words = if_built (unbuilt words.settings) (serial_task words)
-
 abbrev pub serial_service : Option Row → Service
-serial_service (Some (Serial words)) = serial_words_service words
+serial_service (Some (Serial words)) = Does (serial_task words)
 serial_service _ = NoRow
 
 abbrev pub demo_service : Option Row → Service
@@ -140,7 +125,7 @@ demo_service _ = NoRow
 
 abbrev pub run_service : Option Row → Service
 run_service None = NoRow
-run_service (Some (Serial words)) = serial_words_service words
+run_service (Some (Serial words)) = Does (serial_task words)
 run_service (Some (Record words)) = NotYet Command
 run_service (Some (Demo number)) = NotYet Command
 run_service (Some (Decode words)) = NotYet Command
@@ -151,7 +136,7 @@ pub record IsServed (answer : Status) : Type 0 where
   pub built : (form : Form) → answer ≢ status.NotBuilt form
   pub no_stream : (at : ℕ) → answer ≢ status.BadStream at
 
--- Usage comes exactly where the words are in no row, and NotBuilt exactly where a form isn't built, but for want of memory.
+-- Usage comes exactly where the words are in no row, and NotBuilt exactly where the command isn't built, but for want of memory.
 abbrev pub Answers : Service → Status → Type 0
 Answers NoRow answer = (answer ≡ status.Usage) ⊎ (answer ≡ status.NoMemory)
 Answers (NotYet form) answer = (answer ≡ status.NotBuilt form) ⊎ (answer ≡ status.NoMemory)

@@ -1,21 +1,22 @@
 //! One script alone, recorded in its own order.
-ghost use Rattle.std.specs.Prelude.{◌≡◌, ◌≤◌, ◌<◌, ℕ, [], ◌∷◌, map, IfOk};
+ghost use Rattle.std.specs.Prelude.{◌≡◌, ◌≤◌, ℕ, [], ◌∷◌, map, length, IfOk};
 ghost use Rattle.std.specs.List.{range_with_len};
 ghost use Rattle.h265_model.specs.declared.entry.Entry.{Entry};
 ghost use Rattle.h265_model.specs.Files.{WhereTold, Rose};
 ghost use Rattle.h265_model.specs.Histories.{own_order};
+ghost use Rattle.h265_model.specs.Headline.{most_lines};
 ghost use Rattle.edges.specs.Causes.{HasWriteCause};
 ghost use Rattle.screenrec.specs.Answers.{counts, HasCauses, IsSilent};
-ghost use Rattle.screenrec.specs.Recording.{Answers, Leaves, Reports, RefusesEmpty, NamesFile, IsComplete, serial_words_service, unbuilt as unbuilt_form, IsServed, RefusesTask, IsOfFile, LeavesTask, ReportsTask};
-ghost use Rattle.command_line.specs.Views.{settings_view};
+ghost use Rattle.screenrec.specs.Recording.{Does, serial_task, IsServed, RefusesTask, IsOfFile, LeavesTask, ReportsTask, IsComplete};
+ghost use Rattle.command_line.specs.Views.{IsWithinLimits};
 ghost use Rattle.screenrec.specs.Served.{serial_view};
-ghost use Rattle.screenrec.specs.Alone.{alone_task, sink_status, sink_result, ReportsScript, IsAfterReading, IsOfReport, IsReported, LeavesScript};
+ghost use Rattle.screenrec.specs.Alone.{sink_status, sink_result, ReportsScript, IsAfterReading, IsOfReport, IsReported, LeavesScript};
 
 use crate::paint_file::read_paint;
 use crate::report::write_report;
 use crate::stream_file::write_stream;
-use crate::{Form, Outcome, Status};
-use command_line::{SerialWords, Settings};
+use crate::{Outcome, Status};
+use command_line::SerialWords;
 use edges::{Shelf, Sink, WriteError};
 use h265_model::{Entry, History, NoMemory};
 use paint_script::Script;
@@ -64,11 +65,13 @@ fn report_script<K: Sink>(alloc: Global, script: &Script, written: u64, report: 
 // Writes the stream of an accepted script, and reports it.
 fn record_script<F: Shelf, K: Sink>(
     alloc: Global,
+    words: &SerialWords<'_>,
     script: &Script,
-    out: &str,
     shelf: &mut F,
     report: &mut K,
 ) -> Outcome
+    requires within { IsWithinLimits words.now.settings }
+    requires few { length script.now ≤ most_lines }
     ensures status { IsAfterReading result.status }
     ensures sink { HasWriteCause (F.write_faults shelf.old) (F.write_faults shelf.new) (sink_result result.status) }
     ensures reads { F.read_faults shelf.new ≡ F.read_faults shelf.old }
@@ -76,17 +79,18 @@ fn record_script<F: Shelf, K: Sink>(
     ensures cause { result.status ≡ Status.ReportFault → Rose (K.faults report.old) (K.faults report.new) }
     ensures kept { result.status ≡ Status.Ok → K.faults report.new ≡ K.faults report.old }
     ensures files { WhereTold (F.files shelf.old) (F.files shelf.new) (λ before after.
-        LeavesScript out.now script.now before after result.order result.written result.status) }
+        LeavesScript (serial_view words.now) script.now before after result.order result.written result.status) }
     ensures text { WhereTold (K.text report.old) (K.text report.new) (λ was now.
         ReportsScript script.now result.written was now result.status) }
     ensures own { IsReported result.status → result.order ≡ own_order (script.now ∷ []) }
     ensures beside { WhereTold (K.beside report.old) (K.beside report.new) (λ was now. now ≡ was) }
     ensures through { K.through report.new ≡ K.through report.old }
 {
+    let _width = words.settings.size.w();
     let Ok(order) = entries(alloc, script.lines()) else {
         return Outcome::refused(alloc, Status::NoMemory);
     };
-    let ending = match write_stream(alloc, script, out, shelf) {
+    let ending = match write_stream(alloc, &words.settings, script, words.out, shelf) {
         Ok(ending) => ending,
         Err(error) => return Outcome::refused(alloc, status_of(error)),
     };
@@ -106,82 +110,37 @@ fn record_script<F: Shelf, K: Sink>(
     }
 }
 
-// Records the one file: reads it, writes its stream, and reports.
-pub fn record_alone<F: Shelf, K: Sink>(
-    alloc: Global,
-    out: &str,
-    file: &str,
-    shelf: &mut F,
-    report: &mut K,
-) -> Outcome
-    ensures words { IsServed result.status }
-    ensures causes { HasCauses
-        (counts (F.read_faults shelf.old) (F.write_faults shelf.old) (K.faults report.old))
-        (counts (F.read_faults shelf.new) (F.write_faults shelf.new) (K.faults report.new))
-        result.status }
-    ensures refused { RefusesTask result.status result.order result.written }
-    ensures named { IsOfFile (file.now ∷ []) result.status }
-    ensures files { WhereTold (F.files shelf.old) (F.files shelf.new) (λ before after.
-        LeavesTask (alone_task out.now file.now) before after result.order result.written result.status) }
-    ensures silent { WhereTold (K.text report.old) (K.text report.new) (λ was now. IsSilent result.status was now) }
-    ensures beside { WhereTold (K.beside report.old) (K.beside report.new) (λ was now. now ≡ was) }
-    ensures through { K.through report.new ≡ K.through report.old }
-    ensures reported { WhereTold (F.files shelf.old) (F.files shelf.new) (λ before after.
-        WhereTold (K.text report.old) (K.text report.new) (λ was now.
-        ReportsTask (alone_task out.now file.now) before was now result.status result.order result.written)) }
-{
-    match read_paint(alloc, file, shelf) {
-        Ok(script) => record_script(alloc, &script, out, shelf, report),
-        Err(status) => Outcome::refused(alloc, status),
-    }
-}
-
-// The first of size, effort and key that isn't built yet.
-fn unbuilt(settings: &Settings) -> Option<Form>
-    ensures { result ≡ unbuilt_form (settings_view settings.now) }
-{
-    if settings.size.w() != 32 || settings.size.h() != 32 {
-        return Some(Form::Size);
-    }
-    if settings.effort != 0 {
-        return Some(Form::Effort);
-    }
-    if settings.key != 1 {
-        return Some(Form::Key);
-    }
-    None
-}
-
-/// Serves the words behind `serial`.
+/// Serves the words behind `serial`: reads the one file, writes its stream, and reports.
 pub fn serve<F: Shelf, K: Sink>(
     alloc: Global,
     words: &SerialWords<'_>,
     shelf: &mut F,
     report: &mut K,
 ) -> Outcome
-    ensures words { Answers (serial_words_service (serial_view words.now)) result.status }
+    requires within { IsWithinLimits words.now.settings }
+    ensures words { IsServed result.status }
     ensures causes { HasCauses
         (counts (F.read_faults shelf.old) (F.write_faults shelf.old) (K.faults report.old))
         (counts (F.read_faults shelf.new) (F.write_faults shelf.new) (K.faults report.new))
         result.status }
-    ensures refused { RefusesEmpty (serial_words_service (serial_view words.now)) result.status result.order result.written }
-    ensures named { NamesFile (serial_words_service (serial_view words.now)) result.status }
+    ensures refused { RefusesTask result.status result.order result.written }
+    ensures named { IsOfFile (words.now.file.now ∷ []) result.status }
     ensures files { WhereTold (F.files shelf.old) (F.files shelf.new) (λ before after.
-        Leaves (serial_words_service (serial_view words.now)) before after result.status result.order result.written) }
+        LeavesTask (serial_task (serial_view words.now)) before after result.order result.written result.status) }
     ensures silent { WhereTold (K.text report.old) (K.text report.new) (λ was now. IsSilent result.status was now) }
     ensures beside { WhereTold (K.beside report.old) (K.beside report.new) (λ was now. now ≡ was) }
     ensures through { K.through report.new ≡ K.through report.old }
     ensures reported { WhereTold (F.files shelf.old) (F.files shelf.new) (λ before after.
         WhereTold (K.text report.old) (K.text report.new) (λ was now.
-        Reports (serial_words_service (serial_view words.now)) before was now result.status result.order result.written)) }
+        ReportsTask (serial_task (serial_view words.now)) before was now result.status result.order result.written)) }
     ensures complete { WhereTold (F.files shelf.old) (F.files shelf.new) (λ before after.
-        IsComplete (serial_words_service (serial_view words.now)) before
+        IsComplete (Does (serial_task (serial_view words.now))) before
         (counts (F.read_faults shelf.old) (F.write_faults shelf.old) (K.faults report.old))
         (counts (F.read_faults shelf.new) (F.write_faults shelf.new) (K.faults report.new))
         result.status) }
 {
-    match unbuilt(&words.settings) {
-        Some(form) => Outcome::refused(alloc, Status::NotBuilt { form }),
-        None => record_alone(alloc, words.out, words.file, shelf, report),
+    match read_paint(alloc, words.file, shelf) {
+        Ok(script) => record_script(alloc, words, &script, shelf, report),
+        Err(status) => Outcome::refused(alloc, status),
     }
 }

@@ -6,10 +6,10 @@ mod complaint;
 mod demo;
 mod outcome;
 mod paint_file;
-mod pcm_picture;
 mod recording;
 mod report;
 mod serial;
+mod stage;
 mod stream_file;
 
 pub use complaint::Complaint;

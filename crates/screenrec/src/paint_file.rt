@@ -1,5 +1,6 @@
 //! A client's paint file, read and judged.
-ghost use Rattle.std.specs.Prelude.{◌≡◌, ◌≢◌, ℕ, IfErr};
+ghost use Rattle.std.specs.Prelude.{◌≡◌, ◌≢◌, ◌≤◌, ℕ, length, IfOk, IfErr};
+ghost use Rattle.h265_model.specs.Headline.{most_lines};
 ghost use Rattle.h265_model.specs.Files.{WhereTold, file_at};
 ghost use Rattle.screenrec.specs.Accepted.{Accepts, IsOfOneFile, HasInputCause};
 
@@ -28,6 +29,7 @@ pub fn read_paint<F: Shelf>(alloc: Global, name: &str, shelf: &mut F) -> Result<
     ensures cause { HasInputCause (F.read_faults shelf.old) (F.read_faults shelf.new) result }
     ensures writes { F.write_faults shelf.new ≡ F.write_faults shelf.old }
     ensures status { IfErr result IsOfOneFile }
+    ensures few { IfOk result (λ script. length script ≤ most_lines) }
     ensures files { WhereTold (F.files shelf.old) (F.files shelf.new) (λ before after.
         (after ≡ before) × Accepts (file_at before name.now) result) }
 {
@@ -43,6 +45,7 @@ pub fn read_paint<F: Shelf>(alloc: Global, name: &str, shelf: &mut F) -> Result<
 fn accept(alloc: Global, bytes: &[u8]) -> Result<Script, Status>
     ensures status { IfErr result IsOfOneFile }
     ensures no_fault { (file : ℕ) → result ≢ Err (Status.InputFault file) }
+    ensures few { IfOk result (λ script. length script ≤ most_lines) }
     ensures scripts { Accepts bytes.now result }
 {
     if bytes.len() as u64 > MOST_BYTES {

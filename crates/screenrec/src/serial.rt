@@ -20,7 +20,7 @@ pub fn run_serial<F: Shelf, K: Sink>(
     shelf: &mut F,
     report: &mut K,
 ) -> Outcome
-    // Usage and NotBuilt come exactly where the words say so, but for want of memory.
+    // Usage comes exactly where the words are in no row, but for want of memory.
     ensures words { Answers (serial_service (row_of (texts words.now))) result.status }
     // A fault comes only where its count rose.
     ensures causes { HasCauses

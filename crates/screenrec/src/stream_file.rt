@@ -1,24 +1,23 @@
 //! The stream of a script's pictures, written to a file piece by piece.
-ghost use Rattle.std.specs.Prelude.{◌≡◌, ℕ, ◌+◌, ◌^◌, ◌<◌, ◌≤◌, ◌++◌, ◌∷◌, [], List, Option, IfOk, length, slice_index_or};
+ghost use Rattle.std.specs.Prelude.{◌≡◌, ℕ, ◌+◌, ◌-◌, ◌^◌, ◌<◌, ◌≤◌, ◌++◌, ◌∷◌, [], List, IfOk, OnOk, length, slice_index_or};
 ghost use Rattle.std.specs.FinMap.{insert};
-ghost use Rattle.std.specs.List.{All};
 ghost use Rattle.h265_model.specs.declared.line.Line.{Line};
+ghost use Rattle.h265_model.specs.declared.line.Line.TheVariants as line;
 ghost use Rattle.h265_model.specs.Files.{Files, WhereTold};
-ghost use Rattle.h265_model.specs.Raster.{Raster};
-ghost use Rattle.h265_model.specs.Stream.{picture_piece};
+ghost use Rattle.h265_model.specs.Words as table;
+ghost use Rattle.h265_model.specs.Headline.{most_lines};
 ghost use Rattle.edges.specs.Causes.{HasWriteCause};
-ghost use Rattle.px_plane.specs.Planes.{Shows, ShowsLines};
 ghost use Rattle.paint_script.specs.Spellable.{IsSpellable, AreSpellable};
-ghost use Rattle.screenrec.specs.Built.{built, one_ctu};
-ghost use Rattle.screenrec.specs.Stored.{stream_after, AppendsPiece, Continues, EndsIn};
+ghost use Rattle.command_line.specs.Views.{settings_view};
+ghost use Rattle.screenrec.specs.Stored.{stream_after, cut_piece, AppendsPiece, Continues, EndsIn};
+ghost use Rattle.screenrec.specs.Played.{HasPlayed, IsPlayed};
 ghost use Rattle.screenrec.specs.Endings.{ending_of, EndsAnew};
 
-use crate::pcm_picture::pcm_piece;
+use crate::stage::Stage;
+use command_line::Settings;
 use edges::{Shelf, WriteError};
 use h265_model::{Line, NoMemory};
 use paint_script::Script;
-use param_sets::{Params, write_params};
-use px_plane::{Picture, Size};
 use std::alloc::Global;
 
 /// How the writing of a stream ended, and the bytes of the pieces that were appended whole.
@@ -28,24 +27,22 @@ pub struct Ending {
     pub written: u64,
 }
 
-// Appends the piece of the picture, and tells its length.
-fn append_picture<F: Shelf>(
-    alloc: Global,
-    picture: &Picture,
-    name: &str,
-    shelf: &mut F,
-) -> Result<u64, WriteError>
-    requires { picture.now.size ≡ one_ctu }
+// Cuts a picture, appends its piece, and tells the length of the piece.
+fn append_picture<F: Shelf>(stage: &mut Stage, name: &str, shelf: &mut F) -> Result<u64, WriteError>
+    requires played { IsPlayed stage.old }
+    requires few { stage.old.cuts < 2 ^ 32 - 1 }
+    ensures played { OnOk result ((settings : table.Settings) (done : List Line) → HasPlayed settings stage.old done → HasPlayed settings stage.new (done ++ line.Cut ∷ [])) }
+    ensures cuts { OnOk result (stage.new.cuts ≡ stage.old.cuts + 1) }
     ensures cause { HasWriteCause (F.write_faults shelf.old) (F.write_faults shelf.new) result }
     ensures reads { F.read_faults shelf.new ≡ F.read_faults shelf.old }
-    ensures counted { (n : ℕ) (previous : Option Raster) (shown : Raster) → Shows picture.now shown →
-        IfOk result (λ count. count ≡ length (picture_piece built n previous shown)) }
-    ensures short { IfOk result (λ count. count ≤ 8192) }
-    ensures files { (n : ℕ) (previous : Option Raster) (shown : Raster) → Shows picture.now shown →
+    ensures counted { (settings : table.Settings) (done : List Line) → HasPlayed settings stage.old done →
+        IfOk result (λ count. count ≡ length (cut_piece settings done)) }
+    ensures short { IfOk result (λ count. count < 2 ^ 40) }
+    ensures files { (settings : table.Settings) (done : List Line) → HasPlayed settings stage.old done →
         WhereTold (F.files shelf.old) (F.files shelf.new) (λ before after.
-        AppendsPiece name.now (picture_piece built n previous shown) before after result) }
+        AppendsPiece name.now (cut_piece settings done) before after result) }
 {
-    let Ok(piece) = pcm_piece(alloc, picture) else {
+    let Ok(piece) = stage.cut() else {
         return Err(WriteError::NoMemory);
     };
     shelf.append(name, &piece)?;
@@ -54,36 +51,30 @@ fn append_picture<F: Shelf>(
 
 // Paints a line, or appends the piece of the picture that it cuts, and tells the bytes appended.
 fn play_line<F: Shelf>(
-    alloc: Global,
     line: &Line,
-    picture: &mut Picture,
+    stage: &mut Stage,
     name: &str,
     shelf: &mut F,
 ) -> Result<u64, WriteError>
-    requires sized { picture.old.size ≡ one_ctu }
+    requires played { IsPlayed stage.old }
+    requires few { stage.old.cuts < 2 ^ 32 - 1 }
     requires spellable { IsSpellable line.now }
-    ensures sized { picture.new.size ≡ one_ctu }
-    ensures shown { (done : List Line) → ShowsLines picture.old done → ShowsLines picture.new (done ++ line.now ∷ []) }
+    ensures played { OnOk result ((settings : table.Settings) (done : List Line) → HasPlayed settings stage.old done → HasPlayed settings stage.new (done ++ line.now ∷ [])) }
+    ensures cuts { OnOk result (stage.new.cuts ≤ stage.old.cuts + 1) }
     ensures cause { HasWriteCause (F.write_faults shelf.old) (F.write_faults shelf.new) result }
     ensures reads { F.read_faults shelf.new ≡ F.read_faults shelf.old }
-    ensures counted { (done : List Line) → ShowsLines picture.old done → IfOk result (λ count.
-        length (stream_after (done ++ line.now ∷ [])) ≡ length (stream_after done) + count) }
-    ensures short { IfOk result (λ count. count ≤ 8192) }
-    ensures files { (done : List Line) → ShowsLines picture.old done →
+    ensures counted { (settings : table.Settings) (done : List Line) → HasPlayed settings stage.old done → IfOk result (λ count.
+        length (stream_after settings (done ++ line.now ∷ [])) ≡ length (stream_after settings done) + count) }
+    ensures short { IfOk result (λ count. count < 2 ^ 40) }
+    ensures files { (settings : table.Settings) (done : List Line) → HasPlayed settings stage.old done →
         WhereTold (F.files shelf.old) (F.files shelf.new) (λ before after. (start : Files) →
-        before ≡ insert start name.now (stream_after done) → Continues name.now done line.now start after result) }
+        before ≡ insert start name.now (stream_after settings done) → Continues settings name.now done line.now start after result) }
 {
-    match line {
-        Line::Fill { rect, colour } => {
-            picture.fill(*rect, *colour);
-            Ok(0)
-        }
-        Line::Blit { rect, pixels } => {
-            picture.blit(*rect, pixels.as_slice());
-            Ok(0)
-        }
-        Line::Cut => append_picture(alloc, picture, name, shelf),
+    if let Line::Cut = line {
+        return append_picture(stage, name, shelf);
     }
+    stage.paint(line);
+    Ok(0)
 }
 
 // The line of this number.
@@ -101,25 +92,25 @@ fn line_at(script: &Script, index: u32) -> &Line
 
 // Plays the lines, and writes the pieces of their pictures after the first piece of the stream.
 fn write_pictures<F: Shelf>(
-    alloc: Global,
     script: &Script,
-    mut picture: Picture,
+    mut stage: Stage,
     name: &str,
     shelf: &mut F,
     first: u64,
 ) -> Ending
-    requires sized { picture.size ≡ one_ctu }
-    requires blank { ShowsLines picture [] }
-    requires first { first ≡ length (stream_after []) }
-    requires short { first ≤ 8192 }
+    requires few { length script.now ≤ most_lines }
+    requires played { HasPlayed stage.encoder.settings stage [] }
+    requires first { first ≡ length (stream_after stage.encoder.settings []) }
+    requires short { first < 2 ^ 40 }
     ensures cause { HasWriteCause (F.write_faults shelf.old) (F.write_faults shelf.new) result.result }
     ensures reads { F.read_faults shelf.new ≡ F.read_faults shelf.old }
     ensures files { WhereTold (F.files shelf.old) (F.files shelf.new) (λ before after. (start : Files) →
-        before ≡ insert start name.now (stream_after []) → EndsIn name.now script.now start after result.result result.written) }
+        before ≡ insert start name.now (stream_after stage.encoder.settings []) →
+        EndsIn stage.encoder.settings name.now script.now start after result.result result.written) }
 {
     let mut written = first;
     for index in 0..script.lines() {
-        match play_line(alloc, line_at(script, index), &mut picture, name, shelf) {
+        match play_line(line_at(script, index), &mut stage, name, shelf) {
             Ok(count) => written += count,
             Err(error) => {
                 return Ending {
@@ -143,64 +134,61 @@ fn write_pictures<F: Shelf>(
 /// The file was not made, and nothing was written: `Failed` only where a write failed, or `NoMemory`.
 pub fn write_stream<F: Shelf>(
     alloc: Global,
+    settings: &Settings,
     script: &Script,
     name: &str,
     shelf: &mut F,
 ) -> Result<Ending, WriteError>
+    requires effort { settings.now.effort ≤ 2 }
+    requires few { length script.now ≤ most_lines }
     ensures cause { HasWriteCause (F.write_faults shelf.old) (F.write_faults shelf.new) (ending_of result) }
     ensures reads { F.read_faults shelf.new ≡ F.read_faults shelf.old }
     ensures files { WhereTold (F.files shelf.old) (F.files shelf.new) (λ before after.
-        EndsAnew name.now script.now before after result) }
+        EndsAnew (settings_view settings.now) name.now script.now before after result) }
 {
-    let Ok(start) = make_start(alloc) else {
+    let Ok(start) = make_start(alloc, settings) else {
         return Err(WriteError::NoMemory);
     };
     shelf.create(name)?;
-    Ok(write_pieces(alloc, script, start, name, shelf))
+    Ok(write_pieces(script, start, name, shelf))
 }
 
-// What a stream begins with: the parameter sets, and a black desktop.
+// What a recording begins with: the parameter sets, and a black desktop.
 #[derive(Drop)]
 struct Start {
     first: Vec<u8>,
-    picture: Picture,
+    stage: Stage,
 }
 
-fn make_start(alloc: Global) -> Result<Start, NoMemory>
-    ensures first { IfOk result (λ start. start.first.items ≡ stream_after []) }
-    ensures short { IfOk result (λ start. length start.first.items ≤ 8192) }
-    ensures sized { IfOk result (λ start. start.picture.size ≡ one_ctu) }
-    ensures blank { IfOk result (λ start. ShowsLines start.picture []) }
+fn make_start(alloc: Global, settings: &Settings) -> Result<Start, NoMemory>
+    requires effort { settings.now.effort ≤ 2 }
+    ensures played { IfOk result (λ start. HasPlayed (settings_view settings.now) start.stage []) }
+    ensures first { IfOk result (λ start. start.first.items ≡ stream_after start.stage.encoder.settings []) }
+    ensures short { IfOk result (λ start. length start.first.items < 2 ^ 40) }
 {
-    let size = Size::new(32, 32).unwrap();
-    let first = write_params(alloc, &Params { size })?;
-    let picture = Picture::black(alloc, size)?;
-    Ok(Start { first, picture })
+    let stage = Stage::new(alloc, settings)?;
+    let first = stage.first()?;
+    Ok(Start { first, stage })
 }
 
 // Appends the first piece to the empty file, and then those of the pictures.
-fn write_pieces<F: Shelf>(
-    alloc: Global,
-    script: &Script,
-    start: Start,
-    name: &str,
-    shelf: &mut F,
-) -> Ending
-    requires first { start.first.items ≡ stream_after [] }
-    requires short { length start.first.items ≤ 8192 }
-    requires sized { start.picture.size ≡ one_ctu }
-    requires blank { ShowsLines start.picture [] }
+fn write_pieces<F: Shelf>(script: &Script, start: Start, name: &str, shelf: &mut F) -> Ending
+    requires few { length script.now ≤ most_lines }
+    requires played { HasPlayed start.stage.encoder.settings start.stage [] }
+    requires first { start.first.items ≡ stream_after start.stage.encoder.settings [] }
+    requires short { length start.first.items < 2 ^ 40 }
     ensures cause { HasWriteCause (F.write_faults shelf.old) (F.write_faults shelf.new) result.result }
     ensures reads { F.read_faults shelf.new ≡ F.read_faults shelf.old }
     ensures files { WhereTold (F.files shelf.old) (F.files shelf.new) (λ before after. (before_that : Files) →
-        before ≡ insert before_that name.now [] → EndsIn name.now script.now before_that after result.result result.written) }
+        before ≡ insert before_that name.now [] →
+        EndsIn start.stage.encoder.settings name.now script.now before_that after result.result result.written) }
 {
-    let Start { first, picture } = start;
+    let Start { first, stage } = start;
     if let Err(error) = shelf.append(name, &first) {
         return Ending {
             result: Err(error),
             written: 0,
         };
     }
-    write_pictures(alloc, script, picture, name, shelf, first.len() as u64)
+    write_pictures(script, stage, name, shelf, first.len() as u64)
 }

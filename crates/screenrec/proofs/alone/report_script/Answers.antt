@@ -1,5 +1,3 @@
-use Rattle.std.proofs.Common.{length, ◌-◌, ◌≡◌}
-use Rattle.std.specs.Prelude.{count_by}
 use Rattle.screenrec.proofs.AloneLaws.{reported_whole, reported_in_part}
 use Rattle.screenrec.proofs.alone.report_script.Goals as goal
 

@@ -1,8 +1,0 @@
-use Rattle.screenrec.proofs.RunLaws.{files_refused}
-use Rattle.screenrec.proofs.alone.record_alone.Goals as goal
-
-pub returns-in-Err-clause-files : goal.returns-in-Err-clause-files
-returns-in-Err-clause-files g c =
-    rw c.refused.ensures.status
-    (files_refused (g.F.Shelf.files c.args.shelf.now) (g.F.Shelf.files c.read_paint.new.shelf) c.args.out.now c.args.file.now c.in-Err.status
-    c.refused.result.order c.refused.result.written c.in-Err.ensures.status c.refused.ensures.order c.refused.ensures.written c.in-Err.ensures.files)
