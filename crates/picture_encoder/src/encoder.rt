@@ -58,6 +58,7 @@ impl Encoder {
     pub fn new(alloc: Global, size: Size, effort: u32, key: u32) -> Result<Encoder, NoMemory>
         requires { effort ≤ 2 }
         ensures settings { IfOk result (λ encoder. encoder.settings ≡ record { size = size; effort = effort; key = key }) }
+        ensures sized { IfOk result (λ encoder. encoder.last.size ≡ encoder.settings.size) }
         ensures fresh { IfOk result (λ encoder. StandsFor encoder []) }
     {
         let last = Arc::new(alloc, Picture::black(alloc, size)?)?;
@@ -98,6 +99,7 @@ impl Encoder {
         requires number { job.now.number ≡ self.old.count }
         requires few { self.old.count < 2 ^ 32 - 1 }
         ensures settings { self.new.settings ≡ self.old.settings }
+        ensures sized { self.new.last.size ≡ self.new.settings.size }
         ensures coded { OnOk result ((before : List Raster) (now : Raster) → StandsFor self.old before → TurnsInto job.now self.old.last now
             → StandsFor self.new (before ++ now ∷ [])) }
         ensures piece { IfOk result (λ piece. (before : List Raster) (now : Raster) → StandsFor self.old before → TurnsInto job.now self.old.last now

@@ -1,6 +1,7 @@
 pub mod Differences
 pub mod Kept
 pub mod Linked
+pub mod Planned
 pub mod RowSteps
 pub mod Sourced
 pub mod Starts

@@ -1,8 +1,8 @@
 -- Rows that are coded one by one give what the slice's definition says.
-use Rattle.std.proofs.Common.{◌≡◌, refl, sym, ◌∙◌, ap, subst, ℕ, zero, suc, ◌+◌, ◌*◌, ◌-◌, ◌/◌, ◌<◌, ◌≤◌, List, [], ◌∷◌, ◌++◌, Bool, true, false, cond, map, length, take, drop, get_or, append_assoc, append-nil, arith, add-one, zero-add}
+use Rattle.std.proofs.Common.{◌≡◌, refl, sym, ◌∙◌, ap, subst, ℕ, zero, suc, ◌+◌, ◌*◌, ◌/◌, ◌<◌, ◌≤◌, List, [], ◌∷◌, ◌++◌, Bool, true, false, cond, take, drop, get_or, append_assoc, arith}
 use Rattle.std.specs.Prelude.{Option, Some, None, ◌==◌, nat_le, slice_index_or}
 use Rattle.std.specs.List.{AllByRecursion, flat_map, range_with_len}
-use Rattle.std.proofs.lemmas.Bool.{cond-true, cond-false, eqb-true, eqb-false, le-leb, lt-leb}
+use Rattle.std.proofs.lemmas.Bool.{cond-false, eqb-true, eqb-false, lt-leb}
 use Rattle.std.proofs.lemmas.Grind.{flat_map-append}
 use Rattle.std.proofs.lemmas.List.{get_or-take, get_or-drop, take-take}
 use Rattle.std.proofs.lemmas.Nat.{mul-le, div-mul-add, div_below}
@@ -10,17 +10,16 @@ use Rattle.std.proofs.Math.Seq.{take-add}
 use Rattle.h265_model.specs.declared.Item.{Item}
 use Rattle.h265_model.specs.declared.leaf.Leaf.{Leaf}
 use Rattle.h265_model.specs.declared.leaf.SliceKind.{SliceKind}
-use Rattle.h265_model.specs.Plain.{Size, Picture, ctus, below, joined, terminate_bin, ctu_y}
-use Rattle.h265_model.specs.Contexts.{start, row_start}
-use Rattle.h265_model.specs.Code.{code, contexts_after}
-use Rattle.h265_model.specs.Tree.{Source, ctu_items, ctu_with_flag, ctus_items, items_of_row, is_last, source_of, AreLawfulTrees, IsLawfulTree}
+use Rattle.h265_model.specs.Plain.{Size, Picture, ctus, joined, terminate_bin, ctu_y}
+use Rattle.h265_model.specs.Contexts.{row_start}
+use Rattle.h265_model.specs.Code.{contexts_after}
+use Rattle.h265_model.specs.Tree.{Source, ctu_items, ctu_with_flag, ctus_items, items_of_row, is_last, source_of, AreLawfulTrees}
 use Rattle.h265_model.specs.Slice.{contexts_at, row_code}
 use Rattle.h265_model.specs.Board.{row_inherits}
 use Rattle.h265_model.specs.Wave.{Jobs, inherited}
 use Rattle.h265_model.proofs.ListParts.{all_append}
 use Rattle.h265_laws.proofs.RowLaw.{joined_take}
 use Rattle.px_plane.specs.Planes.{Planes, picture_of}
-use Rattle.row_core.specs.Plan.{Plan}
 use Rattle.row_coder.specs.Sources.{picture_source}
 use Rattle.row_coder.specs.Rows.{Row, first_ctus, flagged_ctu, whole_row, first_contexts, plan_of}
 use Rattle.row_coder.specs.Laws.{row_leaves, leaves_above, IsRowOf, ArePictureLeaves, IsCodedRow, EachRowIsCoded, EachJobIsCoded}

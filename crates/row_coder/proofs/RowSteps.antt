@@ -1,17 +1,16 @@
 -- One more coding tree unit of a row, and its end.
-use Rattle.std.proofs.Common.{◌≡◌, refl, sym, ◌∙◌, ap, subst, ℕ, zero, suc, ◌+◌, ◌*◌, ◌-◌, ◌<◌, ◌≤◌, List, [], ◌∷◌, ◌++◌, Bool, true, false, map, length, take, get_or, append_assoc, append-nil, arith, ⊎_elim}
+use Rattle.std.proofs.Common.{◌≡◌, refl, sym, ◌∙◌, ap, subst, ℕ, zero, suc, ◌+◌, ◌*◌, ◌<◌, ◌≤◌, List, [], ◌∷◌, ◌++◌, Bool, true, false, length, take, get_or, append_assoc, append-nil, arith, ⊎_elim}
 use Rattle.std.specs.Prelude.{◌==◌, Option, Some, None}
 use Rattle.std.proofs.lemmas.Bool.{eqb-true, eqb-false, eq-eqb, cond-true, cond-false, cases_lt}
 use Rattle.std.specs.List.{flat_map}
 use Rattle.std.proofs.lemmas.Grind.{flat_map-append}
 use Rattle.std.proofs.lemmas.Nat.{mul-le}
 use Rattle.h265_model.specs.declared.Item.{Item}
-use Rattle.h265_model.specs.declared.Item.TheVariants as items
 use Rattle.h265_model.specs.declared.Place.TheVariants.{Terminate}
 use Rattle.h265_model.specs.declared.leaf.Leaf.{Leaf}
 use Rattle.h265_model.specs.declared.leaf.SliceKind.{SliceKind}
 use Rattle.h265_model.specs.Plain.{Size, ctus, below, joined, terminate_bin}
-use Rattle.h265_model.specs.Code.{Phase, Plain, Ended, phase_after, code, contexts_after}
+use Rattle.h265_model.specs.Code.{Plain, Ended, phase_after, code, contexts_after}
 use Rattle.h265_model.specs.Tree.{Source, ctu_items, is_last, IsLawfulTree}
 use Rattle.h265_model.specs.Desk.{tile_count}
 use Rattle.arrayvec.specs.ArrayVec.{ArrayVec}
@@ -32,7 +31,7 @@ no_ctus kind size source above plans row = refl
 pub one_ctu_more : (kind : SliceKind) (size : Size) (source : Source) (above : List Leaf) (plans : List (List Leaf)) (row n : ℕ)
     → first_ctus kind size source above plans row (suc n) ≡ first_ctus kind size source above plans row n ++ flagged_ctu kind size source above plans row n
 unfolding first_ctus
-one_ctu_more kind size source above plans row n = 
+one_ctu_more kind size source above plans row n =
     ap (λ (l : List ℕ). flat_map (flagged_ctu kind size source above plans row) l) (below_next n 0 n (omega arith))
     ∙ (flat_map-append (flagged_ctu kind size source above plans row) (below n) (n ∷ [])
     ∙ ap (λ (l : List Item). flat_map (flagged_ctu kind size source above plans row) (below n) ++ l) (append-nil (flagged_ctu kind size source above plans row n)))

@@ -1,19 +1,18 @@
 -- The items of coding units look at no leaves but those at hand.
-use Rattle.std.proofs.Common.{◌≡◌, refl, sym, ◌∙◌, ap, subst, ℕ, zero, suc, ◌+◌, ◌*◌, ◌-◌, ◌/◌, ◌%◌, ◌^◌, ◌<◌, ◌≤◌, ◌&&◌, List, [], ◌∷◌, ◌++◌, Bool, true, false, cond, map, length, take, drop, get_or, append_assoc, append-nil, arith, pos, not, inl, inr}
-use Rattle.std.specs.Prelude.{Option, Some, None, ◌==◌, nat_lt, nat_le, MatchBool, ◌⊎◌}
+use Rattle.std.proofs.Common.{◌≡◌, refl, sym, ◌∙◌, ap, subst, ℕ, zero, suc, ◌+◌, ◌*◌, ◌/◌, ◌%◌, ◌^◌, ◌<◌, ◌≤◌, ◌&&◌, List, [], ◌∷◌, ◌++◌, Bool, true, false, cond, arith, not, inl, inr}
+use Rattle.std.specs.Prelude.{Option, None, MatchBool, ◌⊎◌}
 use Rattle.std.specs.Option.{option_or}
 use Rattle.std.specs.List.{AllByRecursion}
 use Rattle.std.proofs.lemmas.Bool.{cond-true, cond-false, and_from, eq-eqb, le-leb, lt-ltb, and_right, le-ltb, and_parts, leb-true}
 use Rattle.std.proofs.lemmas.List.Folds.{find-append}
 use Rattle.h265_model.specs.declared.Item.{Item}
-use Rattle.h265_model.specs.declared.Item.TheVariants as items
 use Rattle.h265_model.specs.declared.leaf.Kind.{Kind}
 use Rattle.h265_model.specs.declared.leaf.Kind.TheVariants.{Skip, Pcm, Intra}
 use Rattle.h265_model.specs.declared.leaf.Leaf.{Leaf}
 use Rattle.h265_model.specs.declared.leaf.SliceKind.{SliceKind}
 use Rattle.h265_model.specs.Plain.{Size, Picture, coded, context_bin, ctus, ctu_x, ctu_y}
 use Rattle.h265_model.proofs.ListParts.{all_append}
-use Rattle.h265_model.specs.Tree.{Source, leaf_at, left_of, above, covers, how_many, split_context, skip_context, candidates_at, is_skipped, content_items, coding_unit_items, in_P, source_of, samples_in, levels_in, leaf_side, is_whole, IsMode, IsLawfulTree, IsTree, IsCodingUnit, AreQuarters, ctu_items, Walk, walk_on, and_walk, quarters, coding_unit_walk, no_walk, is_leaf, tree_walk}
+use Rattle.h265_model.specs.Tree.{Source, leaf_at, left_of, above, covers, split_context, skip_context, candidates_at, content_items, coding_unit_items, source_of, leaf_side, is_whole, IsMode, IsLawfulTree, IsTree, IsCodingUnit, AreQuarters, ctu_items, Walk, walk_on, and_walk, quarters, coding_unit_walk, no_walk, is_leaf, tree_walk}
 use Rattle.h265_model.specs.Predict.{is_inside}
 use Rattle.pu_code.specs.Cells.{IsUnit}
 use Rattle.h265_laws.proofs.Coverage.{inside_parts}

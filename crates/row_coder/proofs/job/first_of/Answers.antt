@@ -1,5 +1,4 @@
-use Rattle.std.proofs.Common.{◌≡◌, ℕ, ap, sym, ◌∙◌, arith, subst}
-use Rattle.std.specs.Prelude.{Some}
+use Rattle.std.proofs.Common.{ℕ, ap, sym, ◌∙◌, arith}
 use Rattle.row_coder.specs.Rows.{first_contexts}
 use Rattle.row_coder.proofs.Starts.{starts_first, starts_narrow, starts_inherited}
 use Rattle.row_coder.proofs.job.first_of.Goals as goal

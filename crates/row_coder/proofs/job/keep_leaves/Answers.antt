@@ -1,6 +1,4 @@
-use Rattle.std.proofs.Common.{◌≡◌, refl, sym, ◌∙◌, arith, subst, List}
-use Rattle.h265_model.specs.declared.leaf.Leaf.{Leaf}
-use Rattle.h265_model.specs.Plain.{Size}
+use Rattle.std.proofs.Common.{refl, ◌∙◌, arith}
 use Rattle.pu_code.specs.Cells.{IsUnit}
 use Rattle.row_coder.proofs.Kept.{has_set_none, has_set_more, has_set_all, all_at}
 use Rattle.row_coder.proofs.job.keep_leaves.Goals as goal

@@ -1,7 +1,5 @@
-use Rattle.std.proofs.Common.{◌≡◌, sym, ◌∙◌, ap, ◌&&◌, Bool, false, true, rules}
-use Rattle.h265_model.specs.Plain.{Size}
+use Rattle.std.proofs.Common.{◌≡◌, ◌∙◌, rules}
 use Rattle.px_plane.specs.Planes.{picture_of}
-use Rattle.row_coder.specs.Sources.{is_placed, is_predicted}
 use Rattle.row_coder.proofs.Sourced.{levels_some, levels_none}
 use Rattle.row_coder.proofs.predicted.fill_levels.Goals as goal
 

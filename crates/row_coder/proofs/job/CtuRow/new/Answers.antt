@@ -2,7 +2,6 @@ use Rattle.std.proofs.Common.{◌≡◌, ℕ, List, [], ap, sym, ◌∙◌, subs
 use Rattle.std.specs.Prelude.{None}
 use Rattle.std.specs.Arc.{arc_value}
 use Rattle.h265_model.specs.declared.leaf.Leaf.{Leaf}
-use Rattle.h265_model.specs.Plain.{Size}
 use Rattle.h265_model.specs.Code.{Plain}
 use Rattle.h265_laws.proofs.PictureLaw.{IsFit, size_fits}
 use Rattle.bin_items.proofs.Growing.{open_as}

@@ -6,8 +6,8 @@ use Rattle.arrayvec.specs.ArrayVec.{ArrayVec}
 use Rattle.h265_model.specs.declared.leaf.Leaf.{Leaf}
 use Rattle.h265_model.specs.Plain.{Size, ctus}
 use Rattle.h265_model.specs.Tree.{AreAllowed}
-use Rattle.px_plane.specs.Planes.{Planes, picture_of}
-use Rattle.row_coder.specs.Rows.{plan_of, coded_of, leaves_of, IsUnderWay, IsCoded}
+use Rattle.px_plane.specs.Planes.{Planes}
+use Rattle.row_coder.specs.Rows.{plan_of, leaves_of, IsUnderWay, IsCoded}
 use Rattle.row_coder.proofs.RowSteps.{unit_left, length_leaves, leaves_at, in_picture, in_tiles, tree_as, taken_as, last_is, coded_more}
 use Rattle.row_coder.proofs.job.CtuRowRowJob.code_next.Goals as goal
 

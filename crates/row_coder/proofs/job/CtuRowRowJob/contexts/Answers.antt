@@ -1,4 +1,3 @@
-use Rattle.std.proofs.Common.{◌≡◌, ℕ}
 use Rattle.std.specs.Arc.{arc_value}
 use Rattle.row_coder.specs.Rows.{plan_of, leaves_of}
 use Rattle.row_coder.proofs.RowSteps.{second_contexts}

@@ -1,5 +1,5 @@
-use Rattle.std.proofs.Common.{◌≡◌, ℕ, ◌+◌, ◌/◌, List, Bool, false, true, not, ap, sym, ◌∙◌, subst, refl, rules}
-use Rattle.std.specs.Prelude.{Option, ◌==◌, Result, Ok, Err, IfOk}
+use Rattle.std.proofs.Common.{◌≡◌, ℕ, ◌+◌, ◌/◌, false, ap, sym, ◌∙◌, subst, refl}
+use Rattle.std.specs.Prelude.{◌==◌, Result, Ok, Err, IfOk}
 use Rattle.std.specs.Arc.{arc_value}
 use Rattle.std.proofs.lemmas.Bool.{eq-eqb, ne_eqb}
 use Rattle.h265_model.specs.Plain.{Size, ctus}
@@ -34,7 +34,7 @@ finish-requires c =
     elim c.if-not-is_last.branch [
       | then-not-is_last+in_ok-bin w ↦ ap (λ (k : State). phase_of k) w.coder-is ∙ w.in_ok-bin.ensures.phase
       | else-not-is_last w ↦ ap (λ (k : State). phase_of k) w.coder-is
-            ∙ last_phase p s.kind s.number s.above.items (leaves_of s.plans.items) s.inherited s.grid s.coder (ctus p.size.w) refl so (ap (λ (k : ℕ). s.number + 1 == k) (sym ch) ∙ eq-eqb _ _ w.if-not-is_last.false)
+          ∙ last_phase p s.kind s.number s.above.items (leaves_of s.plans.items) s.inherited s.grid s.coder (ctus p.size.w) refl so (ap (λ (k : ℕ). s.number + 1 == k) (sym ch) ∙ eq-eqb _ _ w.if-not-is_last.false)
     ]
 
 -- what holds of an answer
@@ -55,9 +55,9 @@ returns c =
     (if_ok c.finish.result _ _
     (λ bytes known. elim c.if-not-is_last.branch [
       | then-not-is_last+in_ok-bin w ↦ row_ended p s.kind s.number s.above.items (leaves_of s.plans.items) s.inherited s.grid s.coder w.bin.new.self (ctus p.size.w) bytes.items refl so
-            (ap (λ (k : ℕ). s.number + 1 == k) (sym ch) ∙ ne_eqb _ _ w.if-not-is_last.true) w.in_ok-bin.ensures.taken
-            (λ list contexts from. known list contexts (subst (λ (k : State). stands_for k list contexts) (sym w.coder-is) from))
+          (ap (λ (k : ℕ). s.number + 1 == k) (sym ch) ∙ ne_eqb _ _ w.if-not-is_last.true) w.in_ok-bin.ensures.taken
+          (λ list contexts from. known list contexts (subst (λ (k : State). stands_for k list contexts) (sym w.coder-is) from))
       | else-not-is_last w ↦ slice_ended p s.kind s.number s.above.items (leaves_of s.plans.items) s.inherited s.grid s.coder (ctus p.size.w) bytes.items refl so
-            (ap (λ (k : ℕ). s.number + 1 == k) (sym ch) ∙ eq-eqb _ _ w.if-not-is_last.false)
-            (λ list contexts from. known list contexts (subst (λ (k : State). stands_for k list contexts) (sym w.coder-is) from))
+          (ap (λ (k : ℕ). s.number + 1 == k) (sym ch) ∙ eq-eqb _ _ w.if-not-is_last.false)
+          (λ list contexts from. known list contexts (subst (λ (k : State). stands_for k list contexts) (sym w.coder-is) from))
     ]) c.finish.ensures)

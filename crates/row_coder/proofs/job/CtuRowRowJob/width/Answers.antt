@@ -1,4 +1,4 @@
-use Rattle.std.proofs.Common.{◌≡◌, ℕ, ap, sym, ◌∙◌}
+use Rattle.std.proofs.Common.{ℕ, ap, sym, ◌∙◌}
 use Rattle.h265_model.specs.Plain.{Size, ctus}
 use Rattle.px_plane.specs.Planes.{Planes}
 use Rattle.row_coder.specs.Rows.{plan_of}
