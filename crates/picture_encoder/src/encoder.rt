@@ -4,8 +4,14 @@ ghost use Rattle.std.specs.Arc.{arc_value};
 ghost use Rattle.h265_model.specs.Raster.{Raster};
 ghost use Rattle.h265_model.specs.Stream.{pieces};
 ghost use Rattle.px_plane.specs.Tiles.{IsJobOf};
+ghost use Rattle.px_plane.specs.Planes.{Shows};
 ghost use Rattle.picture_encoder.specs.Coded.{StandsFor, TurnsInto};
+ghost use Rattle.picture_encoder.specs.Planning.{IsKept, IsKeptBut, piece_of};
 
+use crate::order::{is_idr, order_bits};
+use crate::picture::code_picture;
+use crate::planning::Task;
+use crate::tiles::flags_of;
 use h265_model::NoMemory;
 use param_sets::{Params, write_params};
 use px_plane::{Job, Picture, Size};
@@ -74,12 +80,9 @@ impl Encoder {
         ensures piece { IfOk result (λ piece. pieces self.now.settings [] ≡ piece.items ∷ []) }
         ensures short { IfOk result (λ piece. length piece.items < 2 ^ 40) }
     {
-        write_params(
-            self.alloc,
-            &Params {
-                size: self.last.size(),
-            },
-        )
+        let size = self.last.size();
+        let piece = write_params(self.alloc, &Params { size })?;
+        Ok(piece)
     }
 
     /// Lays a job over the picture before, codes the picture that it gives on the caller's thread, and gives its piece of the stream: a start code
@@ -104,10 +107,43 @@ impl Encoder {
         ensures short { IfOk result (λ piece. length piece.items < 2 ^ 40) }
         ensures err { OnErr result (self.new ≡ self.old) }
     {
+        let touched = flags_of(self.alloc, self.last.size(), job.tiles.as_slice())?;
+        let now = self.picture_after(job)?;
+        let piece = self.piece(&now, &touched)?;
+        self.last = now;
+        self.count += 1;
+        Ok(piece)
+    }
+
+    // The picture that a job makes of the last one.
+    fn picture_after(&self, job: &Job) -> Result<Arc<Picture, Global>, NoMemory>
+        requires { IsJobOf self.now.settings.size job.now }
+        ensures size { IfOk result (λ now. (arc_value now).size ≡ self.now.settings.size) }
+        ensures shows { IfOk result (λ now. (shown : Raster) → TurnsInto job.now self.now.last shown → Shows (arc_value now) shown) }
+        ensures kept { IfOk result (λ now. IsKeptBut job.now.tiles self.now.last (arc_value now)) }
+    {
         let mut now = self.last.twin()?;
         now.lay(job);
-        self.last = Arc::new(self.alloc, now)?;
-        self.count += 1;
-        Ok(Vec::new(self.alloc))
+        Ok(Arc::new(self.alloc, now)?)
+    }
+
+    // The piece of a picture that is the last one but for tiles that have a flag.
+    fn piece(&self, now: &Arc<Picture, Global>, touched: &[bool]) -> Result<Vec<u8>, NoMemory>
+        requires { IsKept touched.now self.now.last (arc_value now.now) }
+        ensures piece { IfOk result (λ piece. piece.items ≡ piece_of self.now (arc_value now.now)) }
+        ensures short { IfOk result (λ piece. length piece.items < 2 ^ 40) }
+    {
+        let task = Task {
+            last: &self.last,
+            current: now,
+            idr: is_idr(self.key, self.count),
+            effort: self.effort,
+            touched,
+        };
+        let piece = code_picture(self.alloc, &task, order_bits(self.key, self.count))?;
+        Ok(piece)
     }
 }
+
+#[cfg(test)]
+mod tests;

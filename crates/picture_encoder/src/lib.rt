@@ -2,6 +2,11 @@
 #![tactic(auto)]
 
 mod encoder;
+mod order;
+mod picture;
+mod planning;
+mod rows;
+mod tiles;
 
 pub use encoder::Encoder;
 pub use h265_model::NoMemory;

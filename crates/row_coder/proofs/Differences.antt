@@ -1,19 +1,18 @@
 -- Samples less predicted samples, row by row.
-use Rattle.std.proofs.Common.{◌≡◌, refl, sym, ◌∙◌, ap, subst, ℕ, zero, suc, ◌+◌, ◌*◌, ◌-◌, ◌<◌, ◌≤◌, ◌^◌, List, [], ◌∷◌, ◌++◌, length, get_or, map, take, drop, replicate, arith, pos, ℤ, ◌-ℤ◌, append-nil, length-append, add-one}
+use Rattle.std.proofs.Common.{◌≡◌, refl, sym, ◌∙◌, ap, subst, ℕ, zero, suc, ◌+◌, ◌*◌, ◌<◌, ◌≤◌, ◌^◌, List, [], ◌∷◌, ◌++◌, length, get_or, map, take, drop, replicate, arith, pos, ℤ, ◌-ℤ◌, append-nil, add-one}
 use Rattle.std.specs.Prelude.{nat_abs}
-use Rattle.std.specs.List.{AllByRecursion, flat_map, range_with_len}
+use Rattle.std.specs.List.{range_with_len}
 use Rattle.std.proofs.lemmas.Int.{ints}
 use Rattle.std.proofs.lemmas.List.{length-take-le, take_all, take-replicate}
 use Rattle.std.proofs.Math.Seq.{take-append-add, take-add}
-use Rattle.std.proofs.lemmas.List.FromFn.{length-map-range_with_len}
 use Rattle.std.proofs.lemmas.Grind.{flat_map-append}
-use Rattle.h265_model.specs.Plain.{below, place_values, row_values, AreBytes}
+use Rattle.h265_model.specs.Plain.{below, place_values, AreBytes}
 use Rattle.h265_model.specs.Residual.{AreLevels}
 use Rattle.h265_model.specs.Tree.{differences}
 use Rattle.h265_model.proofs.Squares.{length_places}
 use Rattle.h265_model.proofs.ListParts.{all_append, take_front}
 use Rattle.std.proofs.lemmas.Nat.{mul-le}
-use Rattle.bin_items.specs.Square.{place, with_row}
+use Rattle.bin_items.specs.Square.{with_row}
 
 pub differences-append : (a b c d : List ℕ) → length a ≡ length b → differences (a ++ c) (b ++ d) ≡ differences a b ++ differences c d
 differences-append [] [] c d h = refl

@@ -1,8 +1,8 @@
 -- Rows that are coded one by one give what the slice's definition says.
-use Rattle.std.proofs.Common.{◌≡◌, refl, sym, ◌∙◌, ap, subst, ℕ, zero, suc, ◌+◌, ◌*◌, ◌-◌, ◌/◌, ◌<◌, ◌≤◌, List, [], ◌∷◌, ◌++◌, Bool, true, false, cond, map, length, take, drop, get_or, append_assoc, append-nil, arith, add-one, zero-add}
+use Rattle.std.proofs.Common.{◌≡◌, refl, sym, ◌∙◌, ap, subst, ℕ, zero, suc, ◌+◌, ◌*◌, ◌/◌, ◌<◌, ◌≤◌, List, [], ◌∷◌, ◌++◌, Bool, true, false, cond, take, drop, get_or, append_assoc, arith}
 use Rattle.std.specs.Prelude.{Option, Some, None, ◌==◌, nat_le, slice_index_or}
 use Rattle.std.specs.List.{AllByRecursion, flat_map, range_with_len}
-use Rattle.std.proofs.lemmas.Bool.{cond-true, cond-false, eqb-true, eqb-false, le-leb, lt-leb}
+use Rattle.std.proofs.lemmas.Bool.{cond-false, eqb-true, eqb-false, lt-leb}
 use Rattle.std.proofs.lemmas.Grind.{flat_map-append}
 use Rattle.std.proofs.lemmas.List.{get_or-take, get_or-drop, take-take}
 use Rattle.std.proofs.lemmas.Nat.{mul-le, div-mul-add, div_below}
@@ -10,21 +10,20 @@ use Rattle.std.proofs.Math.Seq.{take-add}
 use Rattle.h265_model.specs.declared.Item.{Item}
 use Rattle.h265_model.specs.declared.leaf.Leaf.{Leaf}
 use Rattle.h265_model.specs.declared.leaf.SliceKind.{SliceKind}
-use Rattle.h265_model.specs.Plain.{Size, Picture, ctus, below, joined, terminate_bin, ctu_y}
-use Rattle.h265_model.specs.Contexts.{start, row_start}
-use Rattle.h265_model.specs.Code.{code, contexts_after}
-use Rattle.h265_model.specs.Tree.{Source, ctu_items, ctu_with_flag, ctus_items, items_of_row, is_last, source_of, AreLawfulTrees, IsLawfulTree}
+use Rattle.h265_model.specs.Plain.{Size, Picture, ctus, joined, terminate_bin, ctu_y}
+use Rattle.h265_model.specs.Contexts.{row_start}
+use Rattle.h265_model.specs.Code.{contexts_after}
+use Rattle.h265_model.specs.Tree.{Source, ctu_items, ctu_with_flag, ctus_items, items_of_row, is_last, source_of, AreLawfulTrees}
 use Rattle.h265_model.specs.Slice.{contexts_at, row_code}
 use Rattle.h265_model.specs.Board.{row_inherits}
 use Rattle.h265_model.specs.Wave.{Jobs, inherited}
 use Rattle.h265_model.proofs.ListParts.{all_append}
 use Rattle.h265_laws.proofs.RowLaw.{joined_take}
 use Rattle.px_plane.specs.Planes.{Planes, picture_of}
-use Rattle.row_core.specs.Plan.{Plan}
 use Rattle.row_coder.specs.Sources.{picture_source}
 use Rattle.row_coder.specs.Rows.{Row, first_ctus, flagged_ctu, whole_row, first_contexts, plan_of}
 use Rattle.row_coder.specs.Laws.{row_leaves, leaves_above, IsRowOf, ArePictureLeaves, IsCodedRow, EachRowIsCoded, EachJobIsCoded}
-use Rattle.row_coder.proofs.RowSteps.{in_picture, source_is}
+use Rattle.row_coder.proofs.RowSteps.{in_picture}
 use Rattle.row_coder.proofs.Walks.{Agree, IsBefore, agree_far, ctu_same, unit_before}
 
 joined_append : (a b : List (List Leaf)) → joined (a ++ b) ≡ joined a ++ joined b
@@ -74,7 +73,7 @@ module _ (size : Size) (leaves : List (List Leaf)) where
         let y : ctu_y size ctu ≡ row * 32 = ap (λ (k : ℕ). k * 32) (row_of row i few) in
         ap (λ (l : List Item). l ++ terminate_bin (is_last size ctu) ∷ [])
         (ap (λ (l : List Leaf). ctu_items kind size (picture_source size picture) (leaves_above size leaves row ++ joined (take i (row_leaves size leaves row))) l ctu) (unit_is row i few)
-        ∙ ctu_same kind size picture _ _ (get_or leaves ctu []) ctu (lawful.tree ctu inside) (subst (λ (k : ℕ). Agree k _ _) (sym y) (agrees row i less (omega arith))))
+        ∙ ctu_same kind size picture (leaves_above size leaves row ++ joined (take i (row_leaves size leaves row))) (joined (take ctu leaves)) (get_or leaves ctu []) ctu (lawful.tree ctu inside) (subst (λ (k : ℕ). Agree k (leaves_above size leaves row ++ joined (take i (row_leaves size leaves row))) (joined (take ctu leaves))) (sym y) (agrees row i less (omega arith))))
 
     same_units : (f g : ℕ → List Item) (a n : ℕ) → ((i : ℕ) → i < a + n → f i ≡ g i) → flat_map f (range_with_len a n) ≡ flat_map g (range_with_len a n)
     same_units f g a zero h = refl

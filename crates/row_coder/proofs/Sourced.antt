@@ -1,5 +1,5 @@
 -- Blocks with what a picture gives of a coding unit.
-use Rattle.std.proofs.Common.{◌≡◌, refl, sym, ◌∙◌, ap, subst, ℕ, zero, suc, ◌<◌, ◌≤◌, ◌&&◌, Bool, true, false, List, ◌∷◌, ℤ, replicate, map, pos, arith}
+use Rattle.std.proofs.Common.{◌≡◌, refl, sym, ◌∙◌, ap, subst, ℕ, zero, suc, ◌&&◌, true, false, List, ◌∷◌, ℤ, replicate, map, pos, arith}
 use Rattle.std.proofs.lemmas.Bool.{cond-true, cond-false}
 use Rattle.h265_model.specs.declared.leaf.Kind.{Kind}
 use Rattle.h265_model.specs.declared.leaf.Kind.TheVariants.{Intra}
@@ -15,6 +15,10 @@ use Rattle.row_coder.specs.Sources.{is_placed, is_predicted, picture_source}
 zeros_are : (n : ℕ) → AreLevels (replicate n (pos 0))
 zeros_are zero = tt
 zeros_are (suc n) = (omega arith, zeros_are n)
+
+zero_bytes : (n : ℕ) → AreBytes (replicate n 0)
+zero_bytes zero = tt
+zero_bytes (suc n) = (omega arith, zero_bytes n)
 
 map_zeros : (n : ℕ) → replicate n (pos 0) ≡ map pos (replicate n 0)
 map_zeros zero = refl
@@ -47,6 +51,7 @@ unfolding picture_source
 samples_some size picture leaf component block h side e bytes = record {
   side = side;
   samples = e ∙ ap (λ (l : List ℕ). map pos l) (sym (cond-true (is_placed size leaf) _ _ h));
+  fit = subst AreBytes (sym (cond-true (is_placed size leaf) _ _ h)) bytes;
 }
 
 pub samples_none : (size : Size) (picture : Picture) (leaf : Leaf) (component log2 : ℕ) (block : Square) → is_placed size leaf ≡ false → log2 ≡ leaf.log2
@@ -55,4 +60,5 @@ unfolding picture_source
 samples_none size picture leaf component log2 block h side e = record {
   side = ap (λ (b : Square). b.log2) e ∙ side;
   samples = ap (λ (b : Square). b.levels) e ∙ (map_zeros (area log2) ∙ (ap (λ (k : ℕ). map pos (replicate (area k) 0)) side ∙ ap (λ (l : List ℕ). map pos l) (sym (cond-false (is_placed size leaf) _ _ h))));
+  fit = subst AreBytes (sym (cond-false (is_placed size leaf) _ _ h)) (zero_bytes (area leaf.log2));
 }

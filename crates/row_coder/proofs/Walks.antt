@@ -1,25 +1,21 @@
 -- The items of coding units look at no leaves but those at hand.
-use Rattle.std.proofs.Common.{◌≡◌, refl, sym, ◌∙◌, ap, subst, ℕ, zero, suc, ◌+◌, ◌*◌, ◌-◌, ◌/◌, ◌%◌, ◌^◌, ◌<◌, ◌≤◌, ◌&&◌, List, [], ◌∷◌, ◌++◌, Bool, true, false, cond, map, length, take, drop, get_or, append_assoc, append-nil, arith, pos}
-use Rattle.std.specs.Prelude.{Option, Some, None, ◌==◌, nat_lt, nat_le}
+use Rattle.std.proofs.Common.{◌≡◌, refl, sym, ◌∙◌, ap, subst, ℕ, zero, suc, ◌+◌, ◌*◌, ◌/◌, ◌%◌, ◌^◌, ◌<◌, ◌≤◌, ◌&&◌, List, [], ◌∷◌, ◌++◌, Bool, true, false, cond, arith, not, inl, inr}
+use Rattle.std.specs.Prelude.{Option, None, MatchBool, ◌⊎◌}
 use Rattle.std.specs.Option.{option_or}
 use Rattle.std.specs.List.{AllByRecursion}
-use Rattle.std.proofs.lemmas.Bool.{cond-true, cond-false, and_from, eq-eqb, le-leb, lt-ltb, and_right, le-ltb}
+use Rattle.std.proofs.lemmas.Bool.{cond-true, cond-false, and_from, eq-eqb, le-leb, lt-ltb, and_right, le-ltb, and_parts, leb-true}
 use Rattle.std.proofs.lemmas.List.Folds.{find-append}
 use Rattle.h265_model.specs.declared.Item.{Item}
-use Rattle.h265_model.specs.declared.Item.TheVariants as items
 use Rattle.h265_model.specs.declared.leaf.Kind.{Kind}
 use Rattle.h265_model.specs.declared.leaf.Kind.TheVariants.{Skip, Pcm, Intra}
 use Rattle.h265_model.specs.declared.leaf.Leaf.{Leaf}
 use Rattle.h265_model.specs.declared.leaf.SliceKind.{SliceKind}
-use Rattle.h265_model.specs.Plain.{Size, Picture, context_bin, ctus, ctu_x, ctu_y}
-use Rattle.h265_model.specs.Residual.{IsSide, eight, sixteen, thirty_two}
-use Rattle.bin_items.proofs.Places.{side_of}
-use Rattle.h265_model.specs.Tree.{Source, leaf_at, left_of, above, covers, how_many, split_context, skip_context, candidates_at, is_skipped, content_items, coding_unit_items, in_P, source_of, samples_in, levels_in, leaf_side, is_whole, IsMode, IsLawfulTree, ctu_items}
+use Rattle.h265_model.specs.Plain.{Size, Picture, coded, context_bin, ctus, ctu_x, ctu_y}
+use Rattle.h265_model.proofs.ListParts.{all_append}
+use Rattle.h265_model.specs.Tree.{Source, leaf_at, left_of, above, covers, split_context, skip_context, candidates_at, content_items, coding_unit_items, source_of, leaf_side, is_whole, IsMode, IsLawfulTree, IsTree, IsCodingUnit, AreQuarters, ctu_items, Walk, walk_on, and_walk, quarters, coding_unit_walk, no_walk, is_leaf, tree_walk}
+use Rattle.h265_model.specs.Predict.{is_inside}
 use Rattle.pu_code.specs.Cells.{IsUnit}
-use Rattle.coding_tree.specs.Splits.{split_items}
-use Rattle.coding_tree.specs.Units.{begins, flag_items, flags_items, unit_items}
-use Rattle.coding_tree.proofs.UnitWalks.{units_items, units_are}
-use Rattle.coding_tree.proofs.Trees.{ctu_units, tree_within, IsWithin, all_each}
+use Rattle.h265_laws.proofs.Coverage.{inside_parts}
 use Rattle.row_coder.specs.Sources.{is_placed, is_predicted, picture_source}
 
 -- from the row of places just above the top on, these leaves stand where those stand
@@ -68,22 +64,70 @@ coding_unit_same : (kind : SliceKind) (s t : Source) (top : ℕ) (a b : List Lea
 unfolding coding_unit_items
 coding_unit_same kind s t top a b leaf give same h = rw (skip_same top a b leaf.x leaf.y same h, content_same s t top a b leaf leaf.kind refl give same h) refl
 
-flag_same : (size : Size) (top : ℕ) (a b : List Leaf) (leaf : Leaf) (log2 : ℕ) → Agree top a b → top ≤ leaf.y → flag_items size a leaf log2 ≡ flag_items size b leaf log2
-unfolding flag_items
-flag_same size top a b leaf log2 same h = rw (split_same top a b leaf.x leaf.y log2 same h) refl
-
 -- coding units that begin below the top, with the same content
 pub record IsSeenSame (s t : Source) (top : ℕ) (leaf : Leaf) : Type 0 where
   pub give : GiveSame s t leaf
   pub low : top ≤ leaf.y
 
-units_same : (kind : SliceKind) (size : Size) (s t : Source) (top : ℕ) (a b leaves : List Leaf) → AllByRecursion (IsSeenSame s t top) leaves → Agree top a b
-    → units_items kind size s a leaves ≡ units_items kind size t b leaves
-unfolding units_items unit_items flags_items
-units_same kind size s t top a b [] all same = refl
-units_same kind size s t top a b (leaf ∷ leaves) all same =
-    rw (flag_same size top a b leaf 5 same all.0.low, flag_same size top a b leaf 4 same all.0.low, coding_unit_same kind s t top a b leaf all.0.give same all.0.low,
-    units_same kind size s t top (a ++ leaf ∷ []) (b ++ leaf ∷ []) leaves all.1 (agree_more top a b (leaf ∷ []) same)) refl
+-- two walks through the same leaves, with the same items
+record AreSame (s t : Source) (top : ℕ) (p q : Walk) : Type 0 where
+  list : p.list ≡ q.list
+  left : p.left ≡ q.left
+  before : Agree top p.before q.before
+  seen : AllByRecursion (IsSeenSame s t top) p.left
+
+-- what goes on in the same way after leaves that agree
+GoSame : Source → Source → ℕ → (List Leaf → List Leaf → Walk) → (List Leaf → List Leaf → Walk) → Type 0
+GoSame s t top f g = (a b left : List Leaf) → AllByRecursion (IsSeenSame s t top) left → Agree top a b → AreSame s t top (f a left) (g b left)
+
+module _ (kind : SliceKind) (size : Size) (s t : Source) (top : ℕ) where
+  on_same : (list other : List Item) (p q : Walk) → list ≡ other → AreSame s t top p q → AreSame s t top (walk_on list p) (walk_on other q)
+  on_same list other p q e same = record { list = ap (λ (l : List Item). l ++ p.list) e ∙ ap (λ (l : List Item). other ++ l) same.list; left = same.left; before = same.before; seen = same.seen }
+
+  and_same : (p q : Walk) (f g : List Leaf → List Leaf → Walk) → AreSame s t top p q → GoSame s t top f g → AreSame s t top (and_walk p f) (and_walk q g)
+  unfolding GoSame
+  and_same p q f g same go =
+      let next : AreSame s t top (f p.before p.left) (g q.before p.left) = go p.before q.before p.left same.seen same.before in
+      on_same p.list q.list (f p.before p.left) (g q.before q.left) same.list (subst (λ (l : List Leaf). AreSame s t top (f p.before p.left) (g q.before l)) same.left next)
+
+  quarters_same : (f g : ℕ → ℕ → List Leaf → List Leaf → Walk) (half x y : ℕ) → ((u v : ℕ) → top ≤ v → GoSame s t top (f u v) (g u v)) → top ≤ y → GoSame s t top (quarters f half x y) (quarters g half x y)
+  unfolding GoSame
+  quarters_same f g half x y each h a b left seen same =
+      and_same _ _ (f (x + half) (y + half)) (g (x + half) (y + half))
+      (and_same _ _ (f x (y + half)) (g x (y + half))
+      (and_same (f x y a left) (g x y b left) (f (x + half) y) (g (x + half) y) (each x y h a b left seen same) (each (x + half) y h))
+      (each x (y + half) (omega arith)))
+      (each (x + half) (y + half) (omega arith))
+
+  unit_same : GoSame s t top (coding_unit_walk kind s) (coding_unit_walk kind t)
+  unfolding GoSame
+  unit_same a b [] seen same = record { list = refl; left = refl; before = same; seen = tt }
+  unit_same a b (leaf ∷ leaves) seen same = record {
+    list = coding_unit_same kind s t top a b leaf seen.0.give same seen.0.low;
+    left = refl;
+    before = agree_more top a b (leaf ∷ []) same;
+    seen = seen.1;
+  }
+
+  none_same : GoSame s t top no_walk no_walk
+  unfolding GoSame
+  none_same a b left seen same = record { list = refl; left = refl; before = same; seen = seen }
+
+  choice_same : (c : Bool) (p q u v : Walk) → AreSame s t top p q → AreSame s t top u v → AreSame s t top (cond c p u) (cond c q v)
+  choice_same true p q u v a b = a
+  choice_same false p q u v a b = b
+
+  walk_same : (depth x y : ℕ) → top ≤ y → GoSame s t top (tree_walk kind size s depth x y) (tree_walk kind size t depth x y)
+  unfolding GoSame
+  walk_same zero x y h a b left seen same = choice_same (is_inside size x y) _ _ _ _ (unit_same a b left seen same) (none_same a b left seen same)
+  walk_same (suc depth) x y h a b left seen same =
+      let flag = split_same top a b x y (4 + depth) same h in
+      let split = quarters_same (tree_walk kind size s depth) (tree_walk kind size t depth) (2 ^ (3 + depth)) x y (walk_same depth) h a b left seen same in
+      choice_same (not (is_inside size x y)) _ _ _ _ (none_same a b left seen same)
+      (choice_same (not (is_whole size (2 * 2 ^ (3 + depth)) x y)) _ _ _ _ split
+      (choice_same (is_leaf (4 + depth) left) _ _ _ _
+      (on_same _ _ _ _ (ap (λ (n : ℕ). context_bin false n ∷ []) flag) (unit_same a b left seen same))
+      (on_same _ _ _ _ (ap (λ (n : ℕ). context_bin true n ∷ []) flag) split)))
 
 -- a picture gives the same of a coding unit of it
 pub gives_same : (size : Size) (picture : Picture) (leaf : Leaf) → IsUnit size leaf → GiveSame (picture_source size picture) (source_of size picture) leaf
@@ -101,18 +145,106 @@ gives_same size picture leaf u = record {
     predicted mode Pcm e m = absurd (cc)
     predicted mode (Intra n) e m = lt-ltb n 35 m
 
+-- ---- where the leaves of a tree lie
+
+-- a coding unit of the picture between these rows of places
+pub record IsIn (size : Size) (side y : ℕ) (leaf : Leaf) : Type 0 where
+  pub unit : IsUnit size leaf
+  pub top : y ≤ leaf.y
+  pub bottom : leaf.y + leaf_side leaf ≤ y + side
+
+widened : (size : Size) (half v side y : ℕ) (leaves : List Leaf) → y ≤ v → v + half ≤ y + side → AllByRecursion (IsIn size half v) leaves → AllByRecursion (IsIn size side y) leaves
+widened size half v side y [] a b all = tt
+widened size half v side y (leaf ∷ leaves) a b all =
+    let t = all.0.top in
+    let u = all.0.bottom in
+    (record { unit = all.0.unit; top = omega arith; bottom = omega arith }, widened size half v side y leaves a b all.1)
+
+one_in : (size : Size) (log2 x y : ℕ) (leaves : List Leaf) → 3 ≤ log2 → log2 ≤ 5 → x % 2 ^ log2 ≡ 0 → y % 2 ^ log2 ≡ 0 → x + 2 ^ log2 ≤ coded size.w → y + 2 ^ log2 ≤ coded size.h
+    → IsCodingUnit x y log2 leaves → AllByRecursion (IsIn size (2 ^ log2) y) leaves
+one_in size log2 x y leaves low high column row across down u =
+    subst (AllByRecursion (IsIn size (2 ^ log2) y)) (sym u.one)
+    (record { unit = record { low = low; high = high; column = column; row = row; across = across; down = down; mode = u.mode }; top = omega arith; bottom = omega arith }, tt)
+
+quarters_in : (size : Size) (Tree : ℕ → ℕ → List Leaf → Type 0) (half x y : ℕ) (leaves : List Leaf)
+    → ((u v : ℕ) (l : List Leaf) → u % half ≡ 0 → v % half ≡ 0 → Tree u v l → AllByRecursion (IsIn size half v) l)
+    → x % half ≡ 0 → (x + half) % half ≡ 0 → y % half ≡ 0 → (y + half) % half ≡ 0 → AreQuarters Tree half x y leaves → AllByRecursion (IsIn size (half + half) y) leaves
+quarters_in size Tree half x y leaves each x0 x1 y0 y1 q =
+    let T : Leaf → Type 0 = IsIn size (half + half) y in
+    subst (AllByRecursion (IsIn size (half + half) y)) (sym q.together)
+    (all_append (IsIn size (half + half) y) (q.first ++ q.second ++ q.third) q.fourth
+    (all_append (IsIn size (half + half) y) (q.first ++ q.second) q.third
+    (all_append (IsIn size (half + half) y) q.first q.second
+    (widened size half y (half + half) y q.first (omega arith) (omega arith) (each x y q.first x0 y0 q.top_left))
+    (widened size half y (half + half) y q.second (omega arith) (omega arith) (each (x + half) y q.second x1 y0 q.top_right)))
+    (widened size half (y + half) (half + half) y q.third (omega arith) (omega arith) (each x (y + half) q.third x0 y1 q.bottom_left)))
+    (widened size half (y + half) (half + half) y q.fourth (omega arith) (omega arith) (each (x + half) (y + half) q.fourth x1 y1 q.bottom_right)))
+
+no_leaves_in : (size : Size) (side y : ℕ) (leaves : List Leaf) → leaves ≡ [] → AllByRecursion (IsIn size side y) leaves
+no_leaves_in size side y leaves e = subst (AllByRecursion (IsIn size side y)) (sym e) tt
+
+whole_parts : (size : Size) (side x y : ℕ) → is_whole size side x y ≡ true → (x + side ≤ coded size.w) × (y + side ≤ coded size.h)
+whole_parts size side x y h = let p = and_parts _ _ h in (leb-true _ _ p.0, leb-true _ _ p.1)
+
+eight_in : (size : Size) (x y : ℕ) (leaves : List Leaf) → x % 8 ≡ 0 → y % 8 ≡ 0 → IsTree size 0 x y leaves → AllByRecursion (IsIn size 8 y) leaves
+eight_in size x y leaves a b tree = go (is_inside size x y) refl tree
+  where
+    go : (i : Bool) → is_inside size x y ≡ i → MatchBool i (IsCodingUnit x y 3 leaves) (leaves ≡ []) → AllByRecursion (IsIn size 8 y) leaves
+    go true e u =
+        let p = inside_parts size x y e in
+        let px = p.0 in
+        let py = p.1 in
+        one_in size 3 x y leaves (omega arith) (omega arith) a b (omega arith) (omega arith) u
+    go false e none = no_leaves_in size 8 y leaves none
+
+sixteen_in : (size : Size) (x y : ℕ) (leaves : List Leaf) → x % 16 ≡ 0 → y % 16 ≡ 0 → IsTree size 1 x y leaves → AllByRecursion (IsIn size 16 y) leaves
+sixteen_in size x y leaves a b tree = go (is_inside size x y) (is_whole size 16 x y) refl tree
+  where
+    quarter : AreQuarters (IsTree size 0) 8 x y leaves → AllByRecursion (IsIn size 16 y) leaves
+    quarter q = quarters_in size (IsTree size 0) 8 x y leaves (eight_in size) (omega arith) (omega arith) (omega arith) (omega arith) q
+
+    go : (i w : Bool) → is_whole size 16 x y ≡ w → MatchBool i (MatchBool w (IsCodingUnit x y 4 leaves ⊎ AreQuarters (IsTree size 0) 8 x y leaves) (AreQuarters (IsTree size 0) 8 x y leaves)) (leaves ≡ []) → AllByRecursion (IsIn size 16 y) leaves
+    go false w e none = no_leaves_in size 16 y leaves none
+    go true false e q = quarter q
+    go true true e (inl u) = let p = whole_parts size 16 x y e in one_in size 4 x y leaves (omega arith) (omega arith) a b p.0 p.1 u
+    go true true e (inr q) = quarter q
+
+thirty_two_in : (size : Size) (x y : ℕ) (leaves : List Leaf) → x % 32 ≡ 0 → y % 32 ≡ 0 → IsTree size 2 x y leaves → AllByRecursion (IsIn size 32 y) leaves
+thirty_two_in size x y leaves a b tree = go (is_inside size x y) (is_whole size 32 x y) refl tree
+  where
+    quarter : AreQuarters (IsTree size 1) 16 x y leaves → AllByRecursion (IsIn size 32 y) leaves
+    quarter q = quarters_in size (IsTree size 1) 16 x y leaves (sixteen_in size) (omega arith) (omega arith) (omega arith) (omega arith) q
+
+    go : (i w : Bool) → is_whole size 32 x y ≡ w → MatchBool i (MatchBool w (IsCodingUnit x y 5 leaves ⊎ AreQuarters (IsTree size 1) 16 x y leaves) (AreQuarters (IsTree size 1) 16 x y leaves)) (leaves ≡ []) → AllByRecursion (IsIn size 32 y) leaves
+    go false w e none = no_leaves_in size 32 y leaves none
+    go true false e q = quarter q
+    go true true e (inl u) = let p = whole_parts size 32 x y e in one_in size 5 x y leaves (omega arith) (omega arith) a b p.0 p.1 u
+    go true true e (inr q) = quarter q
+
+-- the leaves of a coding tree unit lie in it
+pub ctu_in : (size : Size) (ctu : ℕ) (leaves : List Leaf) → IsLawfulTree size ctu leaves → AllByRecursion (IsIn size 32 (ctu_y size ctu)) leaves
+ctu_in size ctu leaves tree = thirty_two_in size (ctu_x size ctu) (ctu_y size ctu) leaves (multiple (ctu % ctus size.w)) (multiple (ctu / ctus size.w)) tree
+  where
+    multiple : (n : ℕ) → n * 32 % 32 ≡ 0
+    multiple n = omega arith
+
+pub ctu_units : (size : Size) (ctu : ℕ) (leaves : List Leaf) → IsLawfulTree size ctu leaves → AllByRecursion (IsUnit size) leaves
+ctu_units size ctu leaves tree = go leaves (ctu_in size ctu leaves tree)
+  where
+    go : (leaves : List Leaf) → AllByRecursion (IsIn size 32 (ctu_y size ctu)) leaves → AllByRecursion (IsUnit size) leaves
+    go [] all = tt
+    go (leaf ∷ leaves) all = (all.0.unit, go leaves all.1)
+
 -- the items of a coding tree unit of a picture
 pub ctu_same : (kind : SliceKind) (size : Size) (picture : Picture) (a b leaves : List Leaf) (ctu : ℕ) → IsLawfulTree size ctu leaves → Agree (ctu_y size ctu) a b
     → ctu_items kind size (picture_source size picture) a leaves ctu ≡ ctu_items kind size (source_of size picture) b leaves ctu
+unfolding ctu_items GoSame
 ctu_same kind size picture a b leaves ctu tree same =
-    units_are kind size (picture_source size picture) a leaves ctu tree
-    ∙ (units_same kind size (picture_source size picture) (source_of size picture) (ctu_y size ctu) a b leaves (seen leaves (ctu_units size ctu leaves tree) (tree_within size 2 (ctu_x size ctu) (ctu_y size ctu) leaves (omega arith) tree)) same
-    ∙ sym (units_are kind size (source_of size picture) b leaves ctu tree))
+    (walk_same kind size (picture_source size picture) (source_of size picture) (ctu_y size ctu) 2 (ctu_x size ctu) (ctu_y size ctu) (omega arith) a b leaves (seen leaves (ctu_in size ctu leaves tree)) same).list
   where
-    seen : (leaves : List Leaf) → AllByRecursion (IsUnit size) leaves → AllByRecursion (IsWithin (2 ^ (3 + 2)) (ctu_x size ctu) (ctu_y size ctu)) leaves
-        → AllByRecursion (IsSeenSame (picture_source size picture) (source_of size picture) (ctu_y size ctu)) leaves
-    seen [] u v = tt
-    seen (leaf ∷ leaves) u v = (record { give = gives_same size picture leaf u.0; low = v.0.top }, seen leaves u.1 v.1)
+    seen : (leaves : List Leaf) → AllByRecursion (IsIn size 32 (ctu_y size ctu)) leaves → AllByRecursion (IsSeenSame (picture_source size picture) (source_of size picture) (ctu_y size ctu)) leaves
+    seen [] all = tt
+    seen (leaf ∷ leaves) all = (record { give = gives_same size picture leaf all.0.unit; low = all.0.top }, seen leaves all.1)
 
 -- ---- leaves of rows further up
 
@@ -132,20 +264,12 @@ agree_far top bottom far near h all = record {
   each = λ x y k. sym (find-append (covers x y) far near ∙ ap (λ (o : Option Leaf). option_or o (leaf_at near x y)) (none_covers far bottom x y (omega arith) all));
 }
 
-ends_within : (log2 y top : ℕ) → 3 ≤ log2 → log2 ≤ 5 → y % 2 ^ log2 ≡ 0 → y < top * 32 + 32 → y + 2 ^ log2 ≤ top * 32 + 32
-ends_within log2 y top low high whole less = go log2 (side_of log2 low high) whole
-  where
-    go : (n : ℕ) → IsSide n → y % 2 ^ n ≡ 0 → y + 2 ^ n ≤ top * 32 + 32
-    go _ eight e = omega arith
-    go _ sixteen e = omega arith
-    go _ thirty_two e = omega arith
-
 -- the leaves of a coding tree unit end with its row
 pub unit_before : (size : Size) (ctu row : ℕ) (leaves : List Leaf) → ctu / ctus size.w < row → IsLawfulTree size ctu leaves → AllByRecursion (IsBefore (row * 32)) leaves
-unit_before size ctu row leaves less tree = go leaves (ctu_units size ctu leaves tree) (tree_within size 2 (ctu_x size ctu) (ctu_y size ctu) leaves (omega arith) tree)
+unit_before size ctu row leaves less tree = go leaves (ctu_in size ctu leaves tree)
   where
-    go : (leaves : List Leaf) → AllByRecursion (IsUnit size) leaves → AllByRecursion (IsWithin (2 ^ (3 + 2)) (ctu_x size ctu) (ctu_y size ctu)) leaves → AllByRecursion (IsBefore (row * 32)) leaves
-    go [] u v = tt
-    go (leaf ∷ leaves) u v =
-        let e = ends_within leaf.log2 leaf.y (ctu / ctus size.w) u.0.low u.0.high u.0.row v.0.bottom in
-        (record { ends = omega arith }, go leaves u.1 v.1)
+    go : (leaves : List Leaf) → AllByRecursion (IsIn size 32 (ctu_y size ctu)) leaves → AllByRecursion (IsBefore (row * 32)) leaves
+    go [] all = tt
+    go (leaf ∷ leaves) all =
+        let b : leaf.y + leaf_side leaf ≤ ctu / ctus size.w * 32 + 32 = all.0.bottom in
+        (record { ends = omega arith }, go leaves all.1)

@@ -78,24 +78,25 @@ pub record AreAbove (size : Size) (row : ℕ) (plans : List (List Leaf)) : Type 
   pub many : length plans ≡ ctus size.w
   pub tree : (i : ℕ) → i < ctus size.w → IsLawfulTree size (row * ctus size.w + i) (get_or plans i [])
 
--- so many units are coded
-pub record IsCoded (r : Row) (grid : Cells) (coder : State) (n : ℕ) : Type 0 where
-  pub within : n ≤ ctus r.planes.size.w
-  pub grid_is : StandsFor grid (r.above ++ joined (take n r.plans))
-  pub coder_is : stands_for coder (first_ctus r.kind r.planes.size (picture_source r.planes.size (picture_of r.planes)) r.above r.plans r.number n)
-      (first_contexts r.kind (ctus r.planes.size.w) r.number r.inherited)
-  pub is_open : r.number * ctus r.planes.size.w + n < ctus r.planes.size.w * ctus r.planes.size.h → IsOpen (phase_of coder)
-  pub ended : r.number * ctus r.planes.size.w + n ≡ ctus r.planes.size.w * ctus r.planes.size.h → phase_of coder ≡ Ended
+-- so many units of a row are coded
+pub record IsCoded (planes : Planes) (kind : SliceKind) (number : ℕ) (above : List Leaf) (plans : List (List Leaf)) (inherited : Option (List ℕ)) (grid : Cells) (coder : State) (n : ℕ) : Type 0 where
+  pub within : n ≤ ctus planes.size.w
+  pub grid_is : StandsFor grid (above ++ joined (take n plans))
+  pub coder_is : stands_for coder (first_ctus kind planes.size (picture_source planes.size (picture_of planes)) above plans number n) (first_contexts kind (ctus planes.size.w) number inherited)
+  pub is_open : number * ctus planes.size.w + n < ctus planes.size.w * ctus planes.size.h → IsOpen (phase_of coder)
+  pub ended : number * ctus planes.size.w + n ≡ ctus planes.size.w * ctus planes.size.h → phase_of coder ≡ Ended
 
-abbrev pub IsUnderWay : Row → Cells → State → Option ℕ → Type 0
-IsUnderWay r grid coder None = Unit {0}
-IsUnderWay r grid coder (Some n) = IsCoded r grid coder n
+abbrev pub IsUnderWay : Planes → SliceKind → ℕ → List Leaf → List (List Leaf) → Option (List ℕ) → Cells → State → Option ℕ → Type 0
+IsUnderWay planes kind number above plans inherited grid coder None = Unit {0}
+IsUnderWay planes kind number above plans inherited grid coder (Some n) = IsCoded planes kind number above plans inherited grid coder n
 
 -- what holds of each row and what it is coded with
 pub record IsRow (r : Row) (grid : Cells) (coder : State) : Type 0 where
   pub wide : 0 < ctus r.planes.size.w
+  pub narrow : ctus r.planes.size.w ≤ 128
+  pub few : ctus r.planes.size.h ≤ 128
   pub number : r.number < ctus r.planes.size.h
   pub trees : AreTrees r.kind r.planes.size r.number r.plans
   pub size : grid.size ≡ r.planes.size
   pub fresh : r.begun ≡ false → r.coded ≡ Some 0
-  pub under_way : IsUnderWay r grid coder r.coded
+  pub under_way : IsUnderWay r.planes r.kind r.number r.above r.plans r.inherited grid coder r.coded

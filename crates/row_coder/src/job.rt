@@ -141,7 +141,7 @@ impl CtuRow {
         })
     }
 
-    // Adds the leaves of a coding tree unit of the row above.
+    // Adds the leaves of a coding tree unit of the row above. Until they are kept the row is as one that found no memory.
     fn add_above(&mut self, leaves: &[Leaf]) -> Result<(), NoMemory>
         requires fresh { self.old.begun ≡ false }
         requires units { AllByRecursion (IsUnit self.old.planes.size) leaves.now }

@@ -21,3 +21,6 @@ pub fn each_row_is_coded()
 pub fn each_job_is_coded()
     ensures { EachJobIsCoded }
 {}
+
+#[cfg(test)]
+mod tests;

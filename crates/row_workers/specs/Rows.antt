@@ -1,5 +1,5 @@
 -- The jobs of a picture's rows, and what they give.
-use Rattle.std.specs.Prelude.{◌≡◌, ℕ, List, [], ◌∷◌, Option, slice_index_or, length, map}
+use Rattle.std.specs.Prelude.{◌≡◌, ℕ, List, [], slice_index_or, length, map}
 use Rattle.std.specs.List.{AllByRecursion}
 use Rattle.h265_model.specs.Plain.{below}
 use Rattle.h265_model.specs.Wave.{Jobs, row_bytes}

@@ -7,6 +7,5 @@ pub use alone::rows_alone;
 pub use h265_model::NoMemory;
 pub use row_core::{Contexts, RowJob};
 
-
 #[cfg(test)]
 mod tests;

@@ -80,7 +80,7 @@ const CASES: [(u8, [u8; 3]); 4] = [
 ];
 
 // A job that wasn't begun.
-fn job(alloc: Global, more: u8) -> Steps
+fn job(alloc: Global, more: u8, inherited: Option<Contexts>) -> Steps
     ensures more { result.more ≡ more }
     ensures fresh { result.begun ≡ false }
 {
@@ -88,7 +88,7 @@ fn job(alloc: Global, more: u8) -> Steps
         alloc,
         more,
         begun: false,
-        inherited: None,
+        inherited,
         coded: 0,
     }
 }
@@ -96,9 +96,9 @@ fn job(alloc: Global, more: u8) -> Steps
 // The bytes of three rows of so many units, and one more.
 fn three_rows(alloc: Global, more: u8) -> Result<Vec<Vec<u8>>, NoMemory> {
     let mut jobs = Vec::new(alloc);
-    jobs.push(job(alloc, more))?;
-    jobs.push(job(alloc, more))?;
-    jobs.push(job(alloc, more))?;
+    jobs.push(job(alloc, more, None))?;
+    jobs.push(job(alloc, more, None))?;
+    jobs.push(job(alloc, more, None))?;
     rows_alone(alloc, jobs)
 }
 

@@ -1,5 +1,5 @@
 use Rattle.std.proofs.Common.{◌≡◌}
-use Rattle.coding_tree.proofs.UnitSteps.{HasSet}
+use Rattle.row_coder.proofs.Kept.{HasSet}
 use Rattle.row_coder.proofs.job.keep_leaves.Given as goal
 
 abbrev pub invariant-loop-leaf : goal.invariant-loop-leaf

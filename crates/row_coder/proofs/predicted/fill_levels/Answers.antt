@@ -1,7 +1,5 @@
-use Rattle.std.proofs.Common.{◌≡◌, sym, ◌∙◌, ap, ◌&&◌, Bool, false, true}
-use Rattle.h265_model.specs.Plain.{Size}
+use Rattle.std.proofs.Common.{◌≡◌, ◌∙◌, rules}
 use Rattle.px_plane.specs.Planes.{picture_of}
-use Rattle.row_coder.specs.Sources.{is_placed, is_predicted}
 use Rattle.row_coder.proofs.Sourced.{levels_some, levels_none}
 use Rattle.row_coder.proofs.predicted.fill_levels.Goals as goal
 
@@ -15,4 +13,4 @@ pub returns-in-None : goal.returns-in-None
 returns-in-None c =
     let size : c.size.result ≡ c.args.picture.now.size = c.size.ensures.value in
     levels_none c.args.picture.now.size (picture_of c.args.picture.now) c.args.leaf c.args.component _ c.zero.result
-    (rw (← size) (c.in-None.ensures.none tt)) (c.log2-log2.ensures.value ∙ c.requires.side) c.zero.ensures
+    (rw (← size) (c.in-None.ensures.none (search rules))) (c.log2-log2.ensures.value ∙ c.requires.side) c.zero.ensures

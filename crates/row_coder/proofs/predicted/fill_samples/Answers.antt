@@ -1,4 +1,4 @@
-use Rattle.std.proofs.Common.{◌≡◌, sym, ◌∙◌, ap, Bool, false, true}
+use Rattle.std.proofs.Common.{◌≡◌, sym, ◌∙◌, ap}
 use Rattle.h265_model.specs.Plain.{Size}
 use Rattle.px_plane.specs.Planes.{picture_of}
 use Rattle.row_coder.specs.Sources.{is_placed}

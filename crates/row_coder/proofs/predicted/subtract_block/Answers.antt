@@ -1,11 +1,8 @@
-use Rattle.std.proofs.Common.{◌≡◌, ℕ, ◌+◌, ◌-◌, ◌*◌, ◌<◌, ◌^◌, length, take, drop, get_or, ap, ◌∙◌, sym, arith, rules, List, ℤ}
+use Rattle.std.proofs.Common.{◌≡◌, ℕ, ◌+◌, ◌-◌, ◌*◌, ◌<◌, ◌^◌, length, take, drop, get_or, ap, ◌∙◌, sym, arith, rules}
 use Rattle.std.proofs.lemmas.List.{places}
 use Rattle.bin_items.specs.Square.{Square}
-use Rattle.h265_model.specs.Plain.{AreBytes}
-use Rattle.h265_model.specs.Residual.{AreLevels}
-use Rattle.h265_model.specs.Tree.{differences}
 use Rattle.px_plane.specs.Planes.{picture_of}
-use Rattle.row_coder.proofs.Differences.{AreRows, no_rows, rows_more, rows_all, are_levels}
+use Rattle.row_coder.proofs.Differences.{rows_more, rows_all, are_levels}
 use Rattle.row_coder.proofs.predicted.subtract_block.Goals as goal
 
 pub loop-y-preserved : goal.loop-y-preserved

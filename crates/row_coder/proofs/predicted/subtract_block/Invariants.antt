@@ -1,4 +1,4 @@
-use Rattle.std.proofs.Common.{◌≡◌, ◌+◌, ◌*◌, length}
+use Rattle.std.proofs.Common.{◌≡◌, ◌+◌}
 use Rattle.px_plane.specs.Planes.{picture_of}
 use Rattle.row_coder.proofs.Differences.{AreRows}
 use Rattle.row_coder.proofs.predicted.subtract_block.Given as goal

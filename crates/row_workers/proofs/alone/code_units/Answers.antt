@@ -1,4 +1,4 @@
-use Rattle.std.proofs.Common.{◌≡◌, ◌≤◌, ◌<◌, ◌+◌, refl, sym, ◌∙◌, ap, true, Option, Some, None, List, ℕ, arith}
+use Rattle.std.proofs.Common.{refl, ◌∙◌, ap, Option, Some, List, ℕ, arith}
 use Rattle.row_core.specs.Plan.{Plan}
 use Rattle.row_workers.proofs.alone.code_units.Goals as goal
 use Rattle.row_workers.proofs.alone.code_units.Goals.{then-unit-eq1, else-unit-eq1}
@@ -30,14 +30,14 @@ loop-unit-preserved g c = record {
   plan = c.in_ok-code_next.ensures.plan ∙ c.loop-unit.invariant.plan;
   coded = (let before = c.loop-unit.invariant.coded in let after = c.in_ok-code_next.ensures.coded in omega arith);
   some = elim c.if-unit-eq1.branch [
-    then-unit-eq1 w ↦ λ two. w.second-is ∙ ap (λ (l : List ℕ). Some l)
+    | then-unit-eq1 w ↦ λ two. w.second-is ∙ ap (λ (l : List ℕ). Some l)
         (w.contexts.ensures (let before = c.loop-unit.invariant.coded in let after = c.in_ok-code_next.ensures.coded in let one = w.if-unit-eq1 in omega arith)
         ∙ ap (λ (p : Plan). p.second (g.J.RowJob.inherits c.code_next.new.self)) (c.in_ok-code_next.ensures.plan ∙ c.loop-unit.invariant.plan)
         ∙ ap (λ (i : Option (List ℕ)). (g.J.RowJob.plan c.args.job.now).second i) (c.in_ok-code_next.ensures.inherited ∙ c.loop-unit.invariant.inherits))
     | else-unit-eq1 w ↦ λ two. w.second-is ∙ c.loop-unit.invariant.some (let other = w.if-unit-eq1 in omega arith)
   ];
   none = elim c.if-unit-eq1.branch [
-    then-unit-eq1 w ↦ λ few. absurd (let one = w.if-unit-eq1 in omega arith)
+    | then-unit-eq1 w ↦ λ few. absurd (let one = w.if-unit-eq1 in omega arith)
     | else-unit-eq1 w ↦ λ few. w.second-is ∙ c.loop-unit.invariant.none (omega arith)
   ];
 }

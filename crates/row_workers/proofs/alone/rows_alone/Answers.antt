@@ -1,7 +1,7 @@
-use Rattle.std.proofs.Common.{◌≡◌, false, ◌∷◌, [], ◌++◌, ℕ, List, map, length, refl, sym, ap, ◌∙◌, append_assoc, append-nil, arith}
+use Rattle.std.proofs.Common.{◌≡◌, ◌∷◌, [], ◌++◌, length, sym, ap, ◌∙◌, append_assoc, append-nil, arith}
 use Rattle.std.proofs.lemmas.List.{map-append}
 use Rattle.std.specs.Vec.Iter.{into_iter_items}
-use Rattle.row_workers.proofs.InOrder.{nothing_left, in_front, none_done, one_more, all_done, AreDone}
+use Rattle.row_workers.proofs.InOrder.{nothing_left, none_done, one_more, all_done}
 use Rattle.row_workers.proofs.alone.rows_alone.Goals as goal
 
 pub loop-job-init : goal.loop-job-init

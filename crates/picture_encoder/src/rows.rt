@@ -1,0 +1,98 @@
+//! The rows of a picture's coding tree units.
+ghost use Rattle.std.specs.Prelude.{◌≡◌, ◌<◌, ◌≤◌, ◌-◌, map, IfOk, IsTrue, length};
+ghost use Rattle.std.specs.Arc.{arc_value};
+ghost use Rattle.std.specs.List.{All};
+ghost use Rattle.h265_model.specs.Plain.{ctus, below, IsPicture, AreBytes};
+ghost use Rattle.h265_model.specs.Words.{is_size};
+ghost use Rattle.px_plane.specs.Planes.{picture_of};
+ghost use Rattle.h265_model.specs.Stream.{slice_kind};
+ghost use Rattle.row_coder.specs.Rows.{leaves_of};
+ghost use Rattle.slice_assembly.specs.Substreams.{IsSubstream};
+ghost use Rattle.picture_encoder.specs.Planning.{row_chosen, row_of_task, code_of_task, size_of_task};
+
+use crate::planning::Task;
+use bin_items::Leaves;
+use h265_model::{NoMemory, SliceKind};
+use px_plane::Picture;
+use row_coder::CtuRow;
+use row_workers::rows_alone;
+use std::alloc::Global;
+
+// The slice of a picture: I or P.
+fn kind_of(idr: bool) -> SliceKind
+    ensures { result ≡ slice_kind idr }
+{
+    if idr { SliceKind::I } else { SliceKind::P }
+}
+
+// A row with its coding units, and those of the row above, where there is one. `above` are the rows above.
+fn row_job(
+    alloc: Global,
+    task: &Task,
+    row: u32,
+    plans: Vec<Leaves>,
+    above: &[Vec<Leaves>],
+) -> Result<CtuRow, NoMemory>
+    requires row { row < ctus (size_of_task task.now).h }
+    requires plans { leaves_of plans.items ≡ row_chosen task.now row }
+    requires count { length above.now ≡ row }
+    requires above { map (λ row. leaves_of row.items) above.now ≡ map (row_chosen task.now) (below row) }
+    ensures { IfOk result (λ job. job ≡ row_of_task task.now row) }
+{
+    let job = CtuRow::new(alloc, task.current.clone()?, kind_of(task.idr), row, plans)?;
+    if row == 0 {
+        return Ok(job);
+    }
+    let job = job.with_above(&above[row as usize - 1])?;
+    Ok(job)
+}
+
+// The rows from the top, each with its coding units.
+fn row_jobs(alloc: Global, task: &Task, plans: Vec<Vec<Leaves>>) -> Result<Vec<CtuRow>, NoMemory>
+    requires { map (λ row. leaves_of row.items) plans.items ≡ map (row_chosen task.now) (below (ctus (size_of_task task.now).h)) }
+    ensures { IfOk result (λ jobs. jobs.items ≡ map (row_of_task task.now) (below (ctus (size_of_task task.now).h))) }
+{
+    let mut plans = plans;
+    let mut jobs = Vec::with_capacity(alloc, plans.len())?;
+    let mut row = (task.current.size().h() + 31) / 32;
+    // From the bottom, so that the coding units of the row above are still there.
+    while let Some(own) = plans.pop() {
+        row -= 1;
+        jobs.push(row_job(alloc, task, row, own, &plans)?)?;
+    }
+    jobs.reverse();
+    Ok(jobs)
+}
+
+// The samples of a plane are bytes.
+fn bytes_fit(plane: &[u8])
+    ensures { AreBytes plane.now }
+{}
+
+// The size of a picture is within its limits, and its samples are bytes.
+fn picture_fits(picture: &Picture)
+    ensures size { IsTrue (is_size picture.now.size) }
+    ensures samples { IsPicture (picture_of picture.now) }
+{
+    let _size = picture.size();
+    bytes_fit(picture.plane(0));
+    bytes_fit(picture.plane(1));
+    bytes_fit(picture.plane(2));
+}
+
+/// The bytes of each row, coded on the caller's thread, from their coding units.
+pub(crate) fn code_rows(
+    alloc: Global,
+    task: &Task,
+    plans: Vec<Vec<Leaves>>,
+) -> Result<Vec<Vec<u8>>, NoMemory>
+    requires { map (λ row. leaves_of row.items) plans.items ≡ map (row_chosen task.now) (below (ctus (size_of_task task.now).h)) }
+    ensures rows { IfOk result (λ rows. map (λ row. row.items) rows.items ≡ map (code_of_task task.now) (below (ctus (size_of_task task.now).h))) }
+    ensures substreams { IfOk result (λ rows. All (λ row. IsSubstream row.items) rows.items) }
+    ensures some { IfOk result (λ rows. 0 < length rows.items) }
+    ensures few { IfOk result (λ rows. length rows.items ≤ 128) }
+{
+    picture_fits(task.current);
+    let rows = rows_alone(alloc, row_jobs(alloc, task, plans)?)?;
+    Ok(rows)
+}
