@@ -31,6 +31,7 @@ pub each_row_is_substream : EachRowIsSubstream
 each_row_is_substream kind size source leaves row is narrow less =
     let sides = sides_of kind size source leaves is in
     let items = items_of_row kind size source leaves row in
-    let contexts = contexts_at kind size source leaves row in
-    (ends_in _ (code_ends items contexts (row_form kind size source leaves row is.source_is sides is.wide less)),
-    omega (arith, code_length items contexts, length_row kind size source leaves row is.source_is sides narrow))
+    let contexts = contexts_at kind size source leaves row in (
+      ends_in _ (code_ends items contexts (row_form kind size source leaves row is.source_is sides is.wide less)),
+      omega (arith, code_length items contexts, length_row kind size source leaves row is.source_is sides narrow),
+    )
