@@ -15,7 +15,7 @@ use Rattle.row_board.specs.declared.knowledge.Stage.{Stage}
 use Rattle.row_board.specs.declared.knowledge.Stage.TheVariants.{Open, Published, Lost}
 use Rattle.row_board.specs.declared.knowledge.Claimed.{Claimed}
 use Rattle.row_board.specs.declared.knowledge.Knowledge.{Knowledge}
-use Rattle.row_board.specs.Rows.{total, times, claim_of, change, at_stage, in_sync, wanted, ClaimIs, SeatFits, met_weight, Kept, finds, claims, meets_none, claimed, laid, picked_up, published, lost, synced}
+use Rattle.row_board.specs.Rows.{total, times, claim_of, change, at_stage, in_sync, wanted, ClaimIs, SeatFits, IsWord, met_weight, Kept, finds, claims, meets_none, claimed, laid, picked_up, published, lost, synced}
 use Rattle.row_board.proofs.Claims.{total-set, total-le, part-le, claim-here, claim-later, times-cons, claimed-once, times-change, claim-change-same, claim-change-other, alone}
 
 module _ {J : Type 0} where
@@ -62,7 +62,7 @@ module _ {J : Type 0} (fits : ℕ → List (List ℕ) → List (List ℕ) → �
       → ((j : ℕ) (u : Knowledge) → j ≢ id → get_elem? s.views j ≡ some u → SeatFits s.words s.homes k.rows k.width k.want k.give u → SeatFits words' homes' k.rows k.width k.want k.give u)
       → ((r : ℕ) → r < k.rows → get_or s.words 0 0 ≤ r → (get_or words' (r + 1) 0 ≡ get_or s.words (r + 1) 0) × (0 < r → get_or s.words r 0 ≢ 2 → get_or words' r 0 ≢ 2) × (get_elem? homes' r ≡ get_elem? s.homes r))
       → ((r : ℕ) → r < k.rows → get_or words' (r + 1) 0 ≡ 1 → (c : List ℕ) × (get_elem? homes' r ≡ some (some (Shown c))) × (c ≡ wanted k.want r))
-      → ((r : ℕ) → r < k.rows → get_or words' (r + 1) 0 ≤ 3)
+      → ((r : ℕ) → r < k.rows → IsWord k.width (get_or words' (r + 1) 0))
       → Rule record { words = words'; homes = homes'; views = set s.views id w }
   kept_set s k words' homes' id v w at live wide deep first weight met count mine others waiting shown low =
       let sums : (q : ℕ) → total (λ u. times q u.rows) (set s.views id w) ≡ total (λ u. times q u.rows) s.views = λ q. let t = total-set (λ u. times q u.rows) s.views id v w at in let c = count q in omega arith in record {
@@ -72,6 +72,7 @@ module _ {J : Type 0} (fits : ℕ → List (List ℕ) → List (List ℕ) → �
         give = k.give;
         few = k.few;
         long = k.long;
+        give_long = k.give_long;
         wide = wide ∙ k.wide;
         deep = deep ∙ k.deep;
         each = λ j u there alive. ⊎_elim
@@ -90,7 +91,7 @@ module _ {J : Type 0} (fits : ℕ → List (List ℕ) → List (List ℕ) → �
             let same = waiting r inside (let e = first in omega arith) in
             (same.0 ∙ old.0, (λ p. same.1 p (old.1 p)), (old.2.0, same.2 ∙ old.2.1, old.2.2));
         shown = shown;
-        low = low;
+        each_word = low;
         weighs = let t = total-set (λ u. u.weight) s.views id v w at in let z = k.weighs in omega arith;
         over =
             let t = total-set met_weight s.views id v w at in
@@ -179,7 +180,7 @@ module _ {J : Type 0} (fits : ℕ → List (List ℕ) → List (List ℕ) → �
 
   -- the word of an open row r becomes new, 1 or 3
   settles : (s : St) (k : Rule s) (r new : ℕ) (homes' : List (maybe.Option (Piece J))) (f : Claimed → Claimed) (same : (d : Claimed) → (f d).row ≡ d.row) (id : ℕ) (v w : Knowledge) (c : Claimed) → get_elem? s.views id ≡ some v → IsOpen v r c
-      → w ≡ record v { rows = change r f v.rows; picked = 0 } → ((v.picked ≡ 0) ⊎ (v.picked ≡ r + 1)) → new ≢ 2 → new ≤ 3 → length homes' ≡ length s.homes → ((q : ℕ) → q ≢ r → get_elem? homes' q ≡ get_elem? s.homes q)
+      → w ≡ record v { rows = change r f v.rows; picked = 0 } → ((v.picked ≡ 0) ⊎ (v.picked ≡ r + 1)) → new ≢ 2 → IsWord k.width new → length homes' ≡ length s.homes → ((q : ℕ) → q ≢ r → get_elem? homes' q ≡ get_elem? s.homes q)
       → (new ≡ 1 → (x : List ℕ) × (get_elem? homes' r ≡ some (some (Shown x))) × (x ≡ wanted k.want r))
       → (r < k.rows → r < get_or s.words 0 0 → ClaimIs s.words s.homes k.rows v.picked c → ClaimIs (set s.words (r + 1) new) homes' k.rows 0 (f c))
       → Rule record { words = set s.words (r + 1) new; homes = homes'; views = set s.views id w }
@@ -218,16 +219,16 @@ module _ {J : Type 0} (fits : ℕ → List (List ℕ) → List (List ℕ) → �
       let x = k.shown q low (sym (get_or-set_other s.words (r + 1) (q + 1) new 0 (λ g. e (omega arith))) ∙ one) in
       (x.0, homes q e ∙ x.1, x.2)))
       (λ q low. dite (ℕ_discrete q r)
-      (λ e. let z = ap (λ (i : ℕ). get_or (set s.words (r + 1) new) (i + 1) 0) e ∙ here in omega arith)
-      (λ e. let z = get_or-set_other s.words (r + 1) (q + 1) new 0 (λ g. e (omega arith)) in let l = k.low q low in omega arith))
+      (λ e. subst (IsWord k.width) (sym (ap (λ (i : ℕ). get_or (set s.words (r + 1) new) (i + 1) 0) e ∙ here)) small)
+      (λ e. subst (IsWord k.width) (sym (get_or-set_other s.words (r + 1) (q + 1) new 0 (λ g. e (omega arith)))) (k.each_word q low)))
 
   -- what a store needs of the row
   same_above : (s : St) (r new n : ℕ) → n ≡ r → get_or (set s.words (r + 1) new) n 0 ≡ get_or s.words n 0
   same_above s r new n e = get_or-set_other s.words (r + 1) n new 0 (λ g. omega arith)
 
-  pub publishes : (slots id r : ℕ) (me : M) (c : Claimed) (x : List ℕ) (cs : List (ℕ × Piece J)) → IsOpen me.0 r c → me.0.picked ≡ r + 1 → me.1 ≡ (r, Shown x) ∷ cs → x ≡ wanted me.0.want r → (0 < r → c.synced ≡ true)
+  pub publishes : (slots id r : ℕ) (me : M) (c : Claimed) (x : List ℕ) (cs : List (ℕ × Piece J)) → IsOpen me.0 r c → me.0.picked ≡ r + 1 → me.1 ≡ (r, Shown x) ∷ cs → 2 ≤ me.0.width → x ≡ wanted me.0.want r → (0 < r → c.synced ≡ true)
       → Allows Rule slots id me (r + 1) (λ _. 1) (λ _. published (step slots (r + 1) 1 0 none) me 1)
-  publishes slots id r me c x cs is_open picked carried states in_order s k _ at _ =
+  publishes slots id r me c x cs is_open picked carried two_wide states in_order s k _ at _ =
       let v : Knowledge = me.0 in
       let w : Knowledge = record v { rows = change r (at_stage Published) v.rows; picked = 0 } in
       let fits' = k.each id v at is_open.live in
@@ -238,7 +239,7 @@ module _ {J : Type 0} (fits : ℕ → List (List ℕ) → List (List ℕ) → �
         gives,
         tt,
         subst (λ (l : List (ℕ × Piece J)). Rule (stepped s (r + 1) 1 id l w gives)) (sym carried)
-            (settles s k r 1 homes' (at_stage Published) (λ _. refl) id v w c at is_open refl (inr picked) (λ e. omega arith) (omega arith) (length-set s.homes r (some (Shown x))) (λ q e. set_else s.homes r q (some (Shown x)) e)
+            (settles s k r 1 homes' (at_stage Published) (λ _. refl) id v w c at is_open refl (inr picked) (λ e. omega arith) record { low = omega arith; wide = λ _ _. subst (λ (n : ℕ). 2 ≤ n) fits'.same_width two_wide } (length-set s.homes r (some (Shown x))) (λ q e. set_else s.homes r q (some (Shown x)) e)
             (λ _. (x, set_here s.homes r (some (Shown x)) (let i = (fits'.claims r c is_open.mine).1.inside in let d = k.deep in omega arith), states ∙ ap (λ (l : List (List ℕ)). wanted l r) fits'.same_want))
             (λ inside taken is.
             let here : get_or (set s.words (r + 1) 1) (c.row + 1) 0 ≡ 1 = ap (λ (i : ℕ). get_or (set s.words (r + 1) 1) (i + 1) 0) row ∙ get_or-set_same s.words (r + 1) 1 0 (omega arith) in
@@ -273,7 +274,7 @@ module _ {J : Type 0} (fits : ℕ → List (List ℕ) → List (List ℕ) → �
         w,
         keeps,
         tt,
-        settles s k r 3 s.homes (at_stage Lost) (λ _. refl) id v w c at is_open (λ i. record v { rows = change r (at_stage Lost) v.rows; picked = picked i }) (inl picked) (λ e. omega arith) (omega arith) refl (λ q e. refl)
+        settles s k r 3 s.homes (at_stage Lost) (λ _. refl) id v w c at is_open (λ i. record v { rows = change r (at_stage Lost) v.rows; picked = picked i }) (inl picked) (λ e. omega arith) record { low = omega arith; wide = λ _ less. absurd (omega arith) } refl (λ q e. refl)
             (λ e. absurd (omega arith))
             (λ inside taken is.
             let here : get_or (set s.words (r + 1) 3) (c.row + 1) 0 ≡ 3 = ap (λ (i : ℕ). get_or (set s.words (r + 1) 3) (i + 1) 0) row ∙ get_or-set_same s.words (r + 1) 3 0 (omega arith) in
@@ -339,7 +340,7 @@ module _ {J : Type 0} (fits : ℕ → List (List ℕ) → List (List ℕ) → �
       theirs)
       (λ q low above. (refl, (λ _ n. n), homes q (λ e. omega arith)))
       (λ q low one. let x = k.shown q low one in (x.0, homes q (λ e. let z = ap (λ (i : ℕ). get_or s.words (i + 1) 0) e ∙ blank in omega arith) ∙ x.1, x.2))
-      k.low
+      k.each_word
 
   pub lays : (slots id r : ℕ) (me : M) (c : Claimed) (cs : List (ℕ × Piece J)) → IsOpen me.0 r c → me.0.picked ≡ r + 1 → me.1 ≡ (r, Nothing) ∷ cs
       → Allows Rule slots id me 0 (λ n. n) (laid (step slots 0 0 0 none) me)
@@ -382,17 +383,17 @@ module _ {J : Type 0} (fits : ℕ → List (List ℕ) → List (List ℕ) → �
 
   found_word : (s : St) (k : Rule s) (i id n : ℕ) (cs : List (ℕ × Piece J)) (v : Knowledge) → get_elem? s.views id ≡ some v → 0 < v.weight → Rule (stepped s i (get_or s.words i 0) id cs (finds v i n) keeps)
   found_word s k i id n cs v at live = subst (λ (ws : List ℕ). Rule record { words = ws; homes = s.homes; views = set s.views id (finds v i n) }) (sym (set-get_or s.words i 0))
-      (kept_set s k s.words s.homes id v (finds v i n) at live refl refl refl refl refl (λ q. refl) (finds_fit s.words s.homes k.rows k.width k.want k.give v i n (k.each id v at live)) (λ j u _ _ f. f) (λ r _ _. (refl, (λ _ z. z), refl)) k.shown k.low)
+      (kept_set s k s.words s.homes id v (finds v i n) at live refl refl refl refl refl (λ q. refl) (finds_fit s.words s.homes k.rows k.width k.want k.give v i n (k.each id v at live)) (λ j u _ _ f. f) (λ r _ _. (refl, (λ _ z. z), refl)) k.shown k.each_word)
 
   -- the row r takes what the row q above it shows
-  takes_over : (s : St) (k : Rule s) (r q id : ℕ) (cs : List (ℕ × Piece J)) (v : Knowledge) (c : Claimed) (x : List ℕ) → get_elem? s.views id ≡ some v → IsOpen v r c → q + 1 ≡ r → get_or s.words r 0 ≡ 1
+  takes_over : (s : St) (k : Rule s) (r q id : ℕ) (cs : List (ℕ × Piece J)) (v : Knowledge) (c : Claimed) (x : List ℕ) → get_elem? s.views id ≡ some v → 0 < v.weight → claim_of r v.rows ≡ Some c → c.synced ≡ false → q + 1 ≡ r → get_or s.words r 0 ≡ 1
       → Rule (stepped s r 2 id cs (record (finds v r 1) { rows = change r in_sync v.rows }) (takes q (Shown x)))
-  takes_over s k r q id cs v c x at is_open under one =
+  takes_over s k r q id cs v c x at live mine not_yet under one =
       let w : Knowledge = record (finds v r 1) { rows = change r in_sync v.rows } in
       let words' : List ℕ = set s.words r 2 in
       let homes' : List (maybe.Option (Piece J)) = set s.homes q none in
-      let fits' = k.each id v at is_open.live in
-      let cl = fits'.claims r c is_open.mine in
+      let fits' = k.each id v at live in
+      let cl = fits'.claims r c mine in
       let row = cl.0 in
       let wide = k.wide in
       let inside : r < k.rows = let i = cl.1.inside in omega arith in
@@ -404,7 +405,7 @@ module _ {J : Type 0} (fits : ℕ → List (List ℕ) → List (List ℕ) → �
       (λ _. inl (get_or-set_other s.words r d.row 2 0 apart))
       (λ blank. set_else s.homes q d.row none (λ e. let z : get_or s.words (d.row + 1) 0 ≡ 1 = ap (λ (i : ℕ). get_or s.words (i + 1) 0) e ∙ (ap (λ (i : ℕ). get_or s.words i 0) under ∙ one) in omega arith))
       is in
-      kept_set s k words' homes' id v w at is_open.live (length-set s.words r 2) (length-set s.homes q none) first refl refl (λ p. times-change in_sync (λ _. refl) p r v.rows)
+      kept_set s k words' homes' id v w at live (length-set s.words r 2) (length-set s.homes q none) first refl refl (λ p. times-change in_sync (λ _. refl) p r v.rows)
       record {
         same_width = fits'.same_width;
         same_want = fits'.same_want;
@@ -412,15 +413,15 @@ module _ {J : Type 0} (fits : ℕ → List (List ℕ) → List (List ℕ) → �
         met = λ e. let m = fits'.met e in let z = first in omega arith;
         claims = λ p d e. dite (ℕ_discrete p r)
             (λ is.
-            let it : in_sync c ≡ d = some_is (in_sync c) d (sym (claim-change-same in_sync (λ _. refl) r c v.rows is_open.mine) ∙ (ap (λ (z : ℕ). claim_of z (change r in_sync v.rows)) (sym is) ∙ e)) in (
+            let it : in_sync c ≡ d = some_is (in_sync c) d (sym (claim-change-same in_sync (λ _. refl) r c v.rows mine) ∙ (ap (λ (z : ℕ). claim_of z (change r in_sync v.rows)) (sym is) ∙ e)) in (
               ap (λ (y : Claimed). y.row) (sym it) ∙ (row ∙ sym is),
               subst (ClaimIs words' homes' k.rows v.picked) it record {
                 inside = cl.1.inside;
                 taken = let t = cl.1.taken in omega arith;
                 open_word = λ e. get_or-set_other s.words r (c.row + 1) 2 0 (λ g. omega arith) ∙ cl.1.open_word e;
                 open_slot = λ e n. set_else s.homes q c.row none (λ g. omega arith) ∙ cl.1.open_slot e n;
-                published = λ e. absurd (not_both c.stage is_open.open_yet e);
-                lost = λ e. absurd (not_lost c.stage is_open.open_yet e);
+                published = λ e. absurd (true≢false (sym ((cl.1.published e).2 (omega arith)) ∙ not_yet));
+                lost = λ e. get_or-set_other s.words r (c.row + 1) 2 0 (λ g. omega arith) ∙ cl.1.lost e;
                 synced = λ _. (omega arith, ap (λ (i : ℕ). get_or words' i 0) row ∙ here);
                 unsynced = λ e. absurd (true≢false e);
               },
@@ -428,34 +429,30 @@ module _ {J : Type 0} (fits : ℕ → List (List ℕ) → List (List ℕ) → �
             (λ apart. let o = fits'.claims p d (sym (claim-change-other in_sync (λ _. refl) p r v.rows apart) ∙ e) in (o.0, stays v.picked d (λ g. apart (sym o.0 ∙ g)) o.1));
       }
       (λ j u apart there theirs. seat_stays s.words words' s.homes homes' k.rows k.width k.want k.give u (let e = first in omega arith)
-      (λ p d e is_row is. stays u.picked d (λ g. alone r s.views id v c at is_open.mine (let o = k.once r inside taken in omega arith) j u d apart there (ap (λ (z : ℕ). claim_of z u.rows) (sym (sym is_row ∙ g)) ∙ e)) is)
+      (λ p d e is_row is. stays u.picked d (λ g. alone r s.views id v c at mine (let o = k.once r inside taken in omega arith) j u d apart there (ap (λ (z : ℕ). claim_of z u.rows) (sym (sym is_row ∙ g)) ∙ e)) is)
       theirs)
       (λ p low above. (get_or-set_other s.words r (p + 1) 2 0 (λ e. omega arith), (λ _ n two. n (sym (get_or-set_other s.words r p 2 0 (λ e. omega arith)) ∙ two)), set_else s.homes q p none (λ e. omega arith)))
       (λ p low is_one. dite (ℕ_discrete (p + 1) r)
       (λ e. absurd (let z = ap (λ (i : ℕ). get_or words' i 0) e ∙ here in omega arith))
       (λ n. let y = k.shown p low (sym (get_or-set_other s.words r (p + 1) 2 0 n) ∙ is_one) in (y.0, set_else s.homes q p none (λ e. n (omega arith)) ∙ y.1, y.2)))
       (λ p low. dite (ℕ_discrete (p + 1) r)
-      (λ e. let z = ap (λ (i : ℕ). get_or words' i 0) e ∙ here in omega arith)
-      (λ n. let z = get_or-set_other s.words r (p + 1) 2 0 n in let l = k.low p low in omega arith))
+      (λ e.
+      let was : IsWord k.width 1 = subst (IsWord k.width) (ap (λ (i : ℕ). get_or s.words i 0) e ∙ one) (k.each_word p low) in
+      subst (IsWord k.width) (sym (ap (λ (i : ℕ). get_or words' i 0) e ∙ here)) record { low = omega arith; wide = λ _ _. was.wide (omega arith) (omega arith) })
+      (λ n. subst (IsWord k.width) (sym (get_or-set_other s.words r (p + 1) 2 0 n)) (k.each_word p low)))
     where
       some_is : (a b : Claimed) → Some a ≡ Some b → a ≡ b
       some_is a b e = cc
 
-      not_both : (st : Stage) → st ≡ Open → st ≡ Published → ⊥
-      not_both st e f = cc
-
-      not_lost : (st : Stage) → st ≡ Open → st ≡ Lost → ⊥
-      not_lost st e f = cc
-
-  pub syncs : (slots id r : ℕ) (me : M) (c : Claimed) → IsOpen me.0 r c → 0 < r → c.synced ≡ false
+  pub syncs : (slots id r : ℕ) (me : M) (c : Claimed) → 0 < me.0.weight → claim_of r me.0.rows ≡ Some c → 0 < r → c.synced ≡ false
       → Allows Rule slots id me r (λ n. either (eqb n 1) 2 n) (synced (step slots r 1 2 none) me)
-  syncs slots id r me c is_open below not_yet s k _ at _ =
+  syncs slots id r me c live mine below not_yet s k _ at _ =
       let v : Knowledge = me.0 in
       let n : ℕ = get_or s.words r 0 in
       let q : ℕ = r - 1 in
       let under : q + 1 ≡ r = omega arith in
-      let fits' = k.each id v at is_open.live in
-      let cl = fits'.claims r c is_open.mine in
+      let fits' = k.each id v at live in
+      let cl = fits'.claims r c mine in
       let row = cl.0 in
       let above : q < k.rows = let i = cl.1.inside in omega arith in
       exchanged n 1 2
@@ -465,7 +462,7 @@ module _ {J : Type 0} (fits : ℕ → List (List ℕ) → List (List ℕ) → �
         record (finds v r 1) { rows = change r in_sync v.rows },
         takes q (Shown x.0),
         x.1,
-        takes_over s k r q id me.1 v c x.0 at is_open under hit,
+        takes_over s k r q id me.1 v c x.0 at live mine not_yet under hit,
         (
           (λ _. (x.0, ap (λ (z : ℕ). (record (finds v r z) { rows = change r in_sync v.rows }, (q, Shown x.0) ∷ me.1)) (sym hit), x.2 ∙ ap (λ (l : List (List ℕ)). wanted l q) (sym fits'.same_want))),
           (λ miss. absurd (miss hit)),
@@ -475,12 +472,12 @@ module _ {J : Type 0} (fits : ℕ → List (List ℕ) → List (List ℕ) → �
         finds v r n,
         keeps,
         tt,
-        found_word s k r id n me.1 v at is_open.live,
+        found_word s k r id n me.1 v at live,
         (
           (λ hit. absurd (miss hit)),
           (λ _. (
             refl,
-            none_or_lost n (let l = k.low q above in let z = ap (λ (i : ℕ). get_or s.words i 0) under in omega arith) miss
+            none_or_lost n (let l = (k.each_word q above).low in let z = ap (λ (i : ℕ). get_or s.words i 0) under in omega arith) miss
                 (λ two. cl.1.unsynced not_yet (omega arith) (ap (λ (i : ℕ). get_or s.words i 0) row ∙ two)),
           )),
         ),
@@ -526,6 +523,7 @@ module _ {J : Type 0} (fits : ℕ → List (List ℕ) → List (List ℕ) → �
         give = k.give;
         few = k.few;
         long = k.long;
+        give_long = k.give_long;
         wide = length-set s.words 0 (n + 1) ∙ k.wide;
         deep = length-set s.homes n none ∙ k.deep;
         each = λ i u there alive. ⊎_elim
@@ -581,7 +579,7 @@ module _ {J : Type 0} (fits : ℕ → List (List ℕ) → List (List ℕ) → �
             let old = k.waiting r low (omega arith) in
             (later r ∙ old.0, (λ p two. old.1 p (sym (get_or-set_other s.words 0 r (n + 1) 0 (λ e. omega arith)) ∙ two)), (old.2.0, set_else s.homes n r none (λ e. omega arith) ∙ old.2.1, old.2.2));
         shown = λ r low one. let x = k.shown r low (sym (later r) ∙ one) in (x.0, set_else s.homes n r none (λ e. let z = ap (λ (i : ℕ). get_or s.words (i + 1) 0) e ∙ wait.0 in let y = later r in omega arith) ∙ x.1, x.2);
-        low = λ r low. let l = k.low r low in let y = later r in omega arith;
+        each_word = λ r low. subst (IsWord k.width) (sym (later r)) (k.each_word r low);
         weighs = let t = total-set (λ u. u.weight) s.views id v w at in let z = k.weighs in omega arith;
         over = let f = first in omega arith;
       }
@@ -614,6 +612,7 @@ module _ {J : Type 0} (fits : ℕ → List (List ℕ) → List (List ℕ) → �
         give = k.give;
         few = k.few;
         long = k.long;
+        give_long = k.give_long;
         wide = length-set s.words 0 (n + 1) ∙ k.wide;
         deep = k.deep;
         each = λ i u there alive. ⊎_elim
@@ -635,7 +634,7 @@ module _ {J : Type 0} (fits : ℕ → List (List ℕ) → List (List ℕ) → �
         outside = λ r above. same_sum r ∙ k.outside r above;
         waiting = λ r low above. absurd (let f = first in omega arith);
         shown = λ r low one. k.shown r low (sym (later r) ∙ one);
-        low = λ r low. let l = k.low r low in let y = later r in omega arith;
+        each_word = λ r low. subst (IsWord k.width) (sym (later r)) (k.each_word r low);
         weighs = let t = total-set (λ u. u.weight) s.views id v w at in let z = k.weighs in omega arith;
         over =
             let f = first in
@@ -704,6 +703,6 @@ module _ {J : Type 0} (fits : ℕ → List (List ℕ) → List (List ℕ) → �
             (kept_set s k s.words homes' id v w at live refl (length-set s.homes q (some Nothing)) refl refl refl (λ p. refl) (subst (SeatFits s.words homes' k.rows k.width k.want k.give) (sym same) (seat v fits')) (λ j u _ _ f. seat u f)
             (λ p low past. (refl, (λ _ n. n), set_else s.homes q p (some Nothing) (λ e. omega arith)))
             (λ p low one. let x = k.shown p low one in (x.0, set_else s.homes q p (some Nothing) (λ e. let z = ap (λ (i : ℕ). get_or s.words (i + 1) 0) e ∙ two in omega arith) ∙ x.1, x.2))
-            k.low)),
+            k.each_word)),
         refl,
       )

@@ -15,7 +15,7 @@ use Rattle.row_board.specs.declared.piece.Piece.{Piece}
 use Rattle.row_board.specs.declared.piece.Piece.TheVariants.{Nothing, Job, Shown}
 use Rattle.row_board.specs.declared.knowledge.Claimed.{Claimed}
 use Rattle.row_board.specs.declared.knowledge.Knowledge.{Knowledge}
-use Rattle.row_board.specs.Rows.{total, times, claim_of, wanted, SeatFits, met_weight, Kept, job_view, job_fits, no_plan, jobs_of, HaveWidth, width_of, opening_view}
+use Rattle.row_board.specs.Rows.{total, times, claim_of, wanted, SeatFits, IsWord, met_weight, Kept, job_view, job_fits, no_plan, jobs_of, HaveWidth, width_of, opening_view}
 
 -- what each row hands on and gives, by the two lists
 pub want_at : (jobs : Jobs) (n r : ℕ) → r < n → wanted (want_of jobs n) r ≡ jobs.second r (inherited jobs r)
@@ -31,6 +31,9 @@ inherits_at jobs n (suc r) less = ap (λ (x : List ℕ). if jobs.width == 1 then
 
 pub length-want : (jobs : Jobs) (n : ℕ) → length (want_of jobs n) ≡ n
 length-want jobs n = length-map-range_with_len (λ (i : ℕ). jobs.second i (inherited jobs i)) 0 n
+
+pub length-give : (jobs : Jobs) (n : ℕ) → length (give_of jobs n) ≡ n
+length-give jobs n = length-map-range_with_len (row_bytes jobs) 0 n
 
 pub length-planned : {A B : Type 0} (f : A → B) (xs : List A) → length (map f xs) ≡ length xs
 length-planned f [] = refl
@@ -123,6 +126,7 @@ module _ {J : Type 0} (plan : J → Plan) (begun : J → Bool) where
         give = v.give;
         few = few;
         long = length-want (planned js) (many js) ∙ same;
+        give_long = length-give (planned js) (many js) ∙ same;
         wide = let l = length-blanks n in omega arith;
         deep = length-pieces js ∙ sym count;
         each = λ i u there alive. one_seat (SeatFits (0 ∷ blanks n) (map some (map Job js)) n v.width v.want v.give) v i u there record {
@@ -143,7 +147,7 @@ module _ {J : Type 0} (plan : J → Plan) (begun : J → Bool) where
               (p.0, p.2, starts_fit js r p.0 p.1 (let e = same in omega arith) (fresh_at js r p.0 p.1 fresh) (width_at widths.0 js r p.0 p.1 widths.1 ∙ sym (one_width widths.0 js some_job widths.1))),
             );
         shown = λ r low one. absurd (let z = word n r in omega arith);
-        low = λ r low. let z = word n r in omega arith;
+        each_word = λ r low. let z = word n r in record { low = omega arith; wide = λ some_word _. absurd (omega arith) };
         weighs = omega arith;
         over = omega arith;
       }

@@ -61,6 +61,7 @@ module _ {J : Type 0} (fits : ℕ → List (List ℕ) → List (List ℕ) → �
     give = k.give;
     few = k.few;
     long = k.long;
+    give_long = k.give_long;
     wide = k.wide;
     deep = k.deep;
     each = each;
@@ -70,7 +71,7 @@ module _ {J : Type 0} (fits : ℕ → List (List ℕ) → List (List ℕ) → �
     outside = λ r a. sums r ∙ k.outside r a;
     waiting = k.waiting;
     shown = k.shown;
-    low = k.low;
+    each_word = k.each_word;
     weighs = weight ∙ k.weighs;
     over = let o = k.over in omega arith;
   }
@@ -121,19 +122,23 @@ module _ {J : Type 0} (fits : ℕ → List (List ℕ) → List (List ℕ) → �
 
   -- a seat with all the weight, which met the end, claimed each row once
   pub closes : (id : ℕ) (v : Knowledge) (ws : List ℕ) (xs : List (Piece J)) → Final (Seen Rule id v) ws xs → v.weight ≡ 2 ^ 32 → v.met_none ≡ true → AllClaimed v
-  closes id v ws xs final whole met r low =
+  closes id v ws xs final whole met =
       let s = final.0 in
       let k = final.1.0 in
       let at = final.1.1 in
       let f = k.each id v at (omega arith) in
       let past = f.met met in
       let long : length v.want ≡ k.rows = ap length f.same_want ∙ k.long in
-      let one = k.once r (omega arith) (omega arith) in
-      let t = total-set (λ u. times r u.rows) s.views id v spent at in
-      let y = total-set (λ u. u.weight) s.views id v spent at in
-      let z = k.weighs in
-      let none_left = nothing r (set s.views id spent) (λ j u e. others s k id j u e) (omega arith) in
-      omega arith
+      record {
+        once = λ r low.
+            let one = k.once r (omega arith) (omega arith) in
+            let t = total-set (λ u. times r u.rows) s.views id v spent at in
+            let y = total-set (λ u. u.weight) s.views id v spent at in
+            let z = k.weighs in
+            let none_left = nothing r (set s.views id spent) (λ j u e. others s k id j u e) (omega arith) in
+            omega arith;
+        no_other = λ r above. let p = part-le (λ u. times r u.rows) s.views id v at in let o = k.outside r (omega arith) in omega arith;
+      }
     where
       others : (s : St) (k : Rule s) (id j : ℕ) (u : Knowledge) → get_elem? (set s.views id spent) j ≡ some u → u.weight ≡ 0 → u.rows ≡ []
       others s k id j u e zero_weight = ⊎_elim (λ (z : (j ≡ id) × (spent ≡ u)). ap (λ (x : Knowledge). x.rows) (sym z.1)) (λ (z : (j ≢ id) × (get_elem? s.views j ≡ some u)). k.gone j u z.1 zero_weight) (at_set s.views id j spent u e)

@@ -62,6 +62,11 @@ pub record SeatFits {J : Type 0} (words : List ℕ) (homes : List (mathlib.Core.
   pub met : v.met_none ≡ true → rows ≤ slice_index words 0
   pub claims : (r : ℕ) (c : Claimed) → claim_of r v.rows ≡ Some c → (c.row ≡ r) × ClaimIs words homes rows v.picked c
 
+-- a row's word. Only rows of two units or more show contexts
+pub record IsWord (width n : ℕ) : Type 0 where
+  pub low : n ≤ 3
+  pub wide : 0 < n → n < 3 → 2 ≤ width
+
 -- the weight of the seats that met the end of the rows
 abbrev pub met_weight : Knowledge → ℕ
 met_weight v = if v.met_none then v.weight else 0
@@ -74,6 +79,7 @@ pub record Kept {J : Type 0} (fits : ℕ → List (List ℕ) → List (List ℕ)
   pub give : List (List ℕ)
   pub few : rows < 2 ^ 32
   pub long : length want ≡ rows
+  pub give_long : length give ≡ rows
   pub wide : length s.words ≡ rows + 1
   pub deep : length s.homes ≡ rows
   pub each : (j : ℕ) (v : Knowledge) → get_elem? s.views j ≡ some v → 0 < v.weight → SeatFits s.words s.homes rows width want give v
@@ -83,7 +89,7 @@ pub record Kept {J : Type 0} (fits : ℕ → List (List ℕ) → List (List ℕ)
   pub outside : (r : ℕ) → rows ≤ r → total (λ v. times r v.rows) s.views ≡ 0
   pub waiting : (r : ℕ) → r < rows → slice_index s.words 0 ≤ r → (slice_index s.words (r + 1) ≡ 0) × (0 < r → slice_index s.words r ≢ 2) × ((j : J) × (get_elem? s.homes r ≡ some (some (Job j))) × fits width want give r j)
   pub shown : (r : ℕ) → r < rows → slice_index s.words (r + 1) ≡ 1 → (x : List ℕ) × (get_elem? s.homes r ≡ some (some (Shown x))) × (x ≡ wanted want r)
-  pub low : (r : ℕ) → r < rows → slice_index s.words (r + 1) ≤ 3
+  pub each_word : (r : ℕ) → r < rows → IsWord width (slice_index s.words (r + 1))
   pub weighs : total (λ v. v.weight) s.views ≡ 2 ^ 32
   pub over : slice_index s.words 0 ≤ rows + total met_weight s.views
 
@@ -155,9 +161,10 @@ spent = record {
   picked = 0;
 }
 
--- all rows were claimed, each once, by the seat that has all the weight
-abbrev pub AllClaimed : Knowledge → Type 0
-AllClaimed v = (r : ℕ) → r < length v.want → times r v.rows ≡ 1
+-- the seat that has all the weight claimed all rows, each once
+pub record AllClaimed (v : Knowledge) : Type 0 where
+  pub once : (r : ℕ) → r < length v.want → times r v.rows ≡ 1
+  pub no_other : (r : ℕ) → length v.want ≤ r → times r v.rows ≡ 0
 
 -- ---- what rows want and give
 

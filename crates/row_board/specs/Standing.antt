@@ -1,5 +1,6 @@
 -- A row seat as contracts see it.
-use Rattle.std.specs.Prelude.{◌≡◌, ℕ, ◌<◌, List, [], length, Option, Some}
+use Rattle.std.specs.Prelude.{◌≡◌, ℕ, ◌<◌, List, [], length, true, false, Option, Some}
+use Rattle.std.specs.List.{AllByRecursion}
 use Rattle.atomic_table.specs.Table.{Me}
 use Rattle.atomic_table.specs.Seated.{TableId}
 use Rattle.row_board.specs.declared.piece.Piece.{Piece}
@@ -22,11 +23,20 @@ pub record IsSeated {J : Type 0} (z : TableId) (me : Me (Piece J) Knowledge) : T
   pub live : 0 < me.0.weight
   pub idle : me.0.picked ≡ 0
   pub sized : length me.0.want ≡ z.slots
+  pub inside : AllByRecursion (λ claimed. claimed.row < z.slots) me.0.rows
   pub bare : me.1 ≡ []
 
 -- the seat claimed the row, and neither published nor lost it
 abbrev pub HasOpen : Knowledge → ℕ → Type 0
 HasOpen v r = (c : Claimed) × (claim_of r v.rows ≡ Some c) × (c.stage ≡ Open)
+
+-- the seat claimed the row, and took no contexts for it
+abbrev pub HasUnsynced : Knowledge → ℕ → Type 0
+HasUnsynced v r = (c : Claimed) × (claim_of r v.rows ≡ Some c) × (c.synced ≡ false)
+
+-- a row but the first took the contexts of the row above
+abbrev pub IsSynced : Knowledge → ℕ → Type 0
+IsSynced v r = 0 < r → (c : Claimed) × (claim_of r v.rows ≡ Some c) × (c.synced ≡ true)
 
 -- the word that was found is that of the error
 abbrev pub SyncMissed : Knowledge → ℕ → Knowledge → SyncError → Type 0

@@ -1,8 +1,7 @@
 ghost use Rattle.std.specs.Prelude.{◌≡◌, ◌≢◌, ℕ, ◌+◌, ◌-◌, ◌*◌, ◌^◌, ◌<◌, ◌≤◌, [], ◌∷◌, true, false, length, Some, IfOk, IfErr, IfSome, IfNone, map, vec_len};
 ghost use Rattle.std.specs.List.{All};
-ghost use Rattle.row_board.specs.Rows.{wanted, claims, finds, meets_none, change, at_stage, in_sync, merged, lighter, newcomer, job_fits, claim_of, AllClaimed, HaveWidth, opening_view};
-ghost use Rattle.row_board.specs.Standing.{HasOpen, SyncMissed};
-ghost use Rattle.row_board.specs.declared.knowledge.Claimed.{Claimed};
+ghost use Rattle.row_board.specs.Rows.{wanted, claims, finds, meets_none, change, at_stage, in_sync, merged, lighter, newcomer, job_fits, AllClaimed, HaveWidth, opening_view};
+ghost use Rattle.row_board.specs.Standing.{HasOpen, HasUnsynced, IsSynced, SyncMissed};
 ghost use Rattle.row_board.specs.declared.piece.Piece.TheVariants.{Job};
 ghost use Rattle.row_board.specs.declared.knowledge.Stage.TheVariants.{Open, Published, Lost};
 
@@ -125,9 +124,9 @@ impl<J: RowJob> Board<J> {
     pub fn publish(&self, seat: &mut RowSeat<J>, row: &Row, contexts: Contexts)
         requires board { seat.old.table ≡ self.now }
         requires mine { HasOpen seat.old.knows row.now }
-        requires inside { row.now < length seat.old.knows.want }
+        requires wide { 2 ≤ seat.old.knows.width }
         requires contexts { contexts ≡ wanted seat.old.knows.want row.now }
-        requires synced { (c : Claimed) → claim_of row.now seat.old.knows.rows ≡ Some c → 0 < row.now → c.synced ≡ true }
+        requires synced { IsSynced seat.old.knows row.now }
         ensures board { seat.new.table ≡ seat.old.table }
         ensures shown { seat.new.knows ≡ record seat.old.knows { rows = change row.now (at_stage Published) seat.old.knows.rows } }
     {
@@ -142,7 +141,6 @@ impl<J: RowJob> Board<J> {
     pub fn lose(&self, seat: &mut RowSeat<J>, row: &Row)
         requires board { seat.old.table ≡ self.now }
         requires mine { HasOpen seat.old.knows row.now }
-        requires inside { row.now < length seat.old.knows.want }
         ensures board { seat.new.table ≡ seat.old.table }
         ensures lost { seat.new.knows ≡ record seat.old.knows { rows = change row.now (at_stage Lost) seat.old.knows.rows } }
     {
@@ -157,10 +155,8 @@ impl<J: RowJob> Board<J> {
     /// `NotYet` where the row above wasn't published yet, and `Lost` where it was lost.
     pub fn try_sync(&self, seat: &mut RowSeat<J>, row: &Row) -> Result<Contexts, SyncError>
         requires board { seat.old.table ≡ self.now }
-        requires mine { HasOpen seat.old.knows row.now }
-        requires inside { row.now < length seat.old.knows.want }
         requires below { 0 < row.now }
-        requires once { (c : Claimed) → claim_of row.now seat.old.knows.rows ≡ Some c → c.synced ≡ false }
+        requires mine { HasUnsynced seat.old.knows row.now }
         ensures board { seat.new.table ≡ seat.old.table }
         ensures ok { IfOk result (λ x. (x ≡ wanted seat.old.knows.want (row.now - 1)) × (seat.new.knows ≡ record (finds seat.old.knows row.now 1) { rows = change row.now in_sync seat.old.knows.rows })) }
         ensures err { IfErr result (SyncMissed seat.old.knows row.now seat.new.knows) }
@@ -210,7 +206,7 @@ impl<J: RowJob> Board<J> {
     pub fn close(self, seat: RowSeat<J>)
         requires board { seat.table ≡ self }
         requires whole { seat.knows.weight ≡ 2 ^ 32 }
-        ensures { seat.knows.met_none ≡ true → AllClaimed seat.knows }
+        ensures all { seat.knows.met_none ≡ true → AllClaimed seat.knows }
     {
         let Board { table } = self;
         let RowSeat { seat } = seat;

@@ -3,6 +3,7 @@
 
 mod board;
 mod knowledge;
+mod laws;
 mod piece;
 mod plays;
 mod row;
@@ -10,5 +11,6 @@ mod row;
 pub use board::{Board, RowSeat, SyncError};
 pub use h265_model::NoMemory;
 pub use knowledge::{Claimed, Knowledge, Stage};
+pub use laws::{each_board_can_be_shared, each_step_keeps_the_rule};
 pub use row::Row;
 pub use row_core::{Contexts, RowJob};

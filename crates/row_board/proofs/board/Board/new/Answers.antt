@@ -4,6 +4,7 @@ use Rattle.atomic_table.specs.Table.{opening}
 use Rattle.row_board.specs.declared.piece.Piece.{Piece}
 use Rattle.row_board.specs.declared.piece.Piece.TheVariants.{Job}
 use Rattle.row_board.specs.Rows.{Kept, job_fits, opening_view}
+use Rattle.row_board.proofs.Claims.{Inside}
 use Rattle.row_board.proofs.Opening.{opens, planned, many, length-want, length-planned}
 use Rattle.row_board.proofs.board.Board.new.Goals as goal
 
@@ -30,5 +31,6 @@ invariant_of-result-2 g c =
       live = subst (λ (k : ℕ). 0 < k) (sym (ap (λ m. m.0.weight) me)) (omega arith);
       idle = ap (λ m. m.0.picked) me;
       sized = ap (λ m. length m.0.want) me ∙ (want ∙ (jobs ∙ (sym (ap length items ∙ length-planned Job c.args.jobs.items) ∙ (sym ok.1 ∙ sym (ap (λ z. z.slots) ok.2)))));
+      inside = subst (Inside _) (sym (ap (λ m. m.0.rows) me)) tt;
       bare = ap (λ m. m.1) me;
     }
