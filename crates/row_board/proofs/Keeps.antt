@@ -16,6 +16,7 @@ use Rattle.row_board.specs.declared.knowledge.Stage.TheVariants.{Open, Published
 use Rattle.row_board.specs.declared.knowledge.Claimed.{Claimed}
 use Rattle.row_board.specs.declared.knowledge.Knowledge.{Knowledge}
 use Rattle.row_board.specs.Rows.{total, times, claim_of, change, at_stage, in_sync, wanted, ClaimIs, SeatFits, IsWord, met_weight, Kept, finds, claims, meets_none, claimed, laid, picked_up, published, lost, synced}
+use Rattle.row_board.specs.Laws.{IsOpen}
 use Rattle.row_board.proofs.Claims.{total-set, total-le, part-le, claim-here, claim-later, times-cons, claimed-once, times-change, claim-change-same, claim-change-other, alone}
 
 module _ {J : Type 0} where
@@ -127,12 +128,6 @@ module _ {J : Type 0} (fits : ℕ → List (List ℕ) → List (List ℕ) → �
 
   one_row : (r q : ℕ) → r + 1 ≡ q + 1 → r ≡ q
   one_row r q e = omega arith
-
-  -- the seat claimed the row r, which is open
-  pub record IsOpen (v : Knowledge) (r : ℕ) (c : Claimed) : Type 0 where
-    pub live : 0 < v.weight
-    pub mine : claim_of r v.rows ≡ Some c
-    pub open_yet : c.stage ≡ Open
 
   -- the seat's own claims after the claim of row r goes from c to f c, where the word of the row becomes new
   own_claims : (s : St) (k : Rule s) (r new picked : ℕ) (homes' : List (maybe.Option (Piece J))) (f : Claimed → Claimed) (same : (d : Claimed) → (f d).row ≡ d.row) (id : ℕ) (v : Knowledge) (c : Claimed)

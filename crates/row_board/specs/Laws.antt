@@ -11,15 +11,15 @@ use Rattle.row_board.specs.declared.knowledge.Claimed.{Claimed}
 use Rattle.row_board.specs.declared.knowledge.Knowledge.{Knowledge}
 use Rattle.row_board.specs.Rows.{Kept, job_fits, HaveWidth, opening_view, claim_of, wanted, claimed, laid, picked_up, published, lost, synced, lighter, newcomer, merged, spent}
 
+-- the seat claimed the row, which is open
+pub record IsOpen (v : Knowledge) (r : ℕ) (c : Claimed) : Type 0 where
+  pub live : 0 < v.weight
+  pub mine : claim_of r v.rows ≡ Some c
+  pub open_yet : c.stage ≡ Open
+
 module _ {J : Type 0} (plan : J → Plan) (begun : J → Bool) where
   abbrev pub Rule : State (Piece J) Knowledge → Type 0
   Rule = Kept (job_fits plan begun)
-
-  -- the seat claimed the row, which is open
-  pub record IsOpen (v : Knowledge) (r : ℕ) (c : Claimed) : Type 0 where
-    pub live : 0 < v.weight
-    pub mine : claim_of r v.rows ≡ Some c
-    pub open_yet : c.stage ≡ Open
 
   -- a board as it is made
   abbrev pub HoldsAtFirst : Type 0

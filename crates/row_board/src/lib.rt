@@ -7,6 +7,8 @@ mod laws;
 mod piece;
 mod plays;
 mod row;
+#[cfg(test)]
+mod tests;
 
 pub use board::{Board, RowSeat, SyncError};
 pub use h265_model::NoMemory;

@@ -12,19 +12,19 @@ pub returns-clause-claim : goal.returns-clause-claim
 returns-clause-claim g c = claims_next (job_fits g.J.RowJob.plan g.J.RowJob.begun)
 
 pub returns-clause-lay_down : goal.returns-clause-lay_down
-returns-clause-lay_down g c = λ slots id r me claim cs is_open. lays (job_fits g.J.RowJob.plan g.J.RowJob.begun) slots id r me claim cs record { live = is_open.live; mine = is_open.mine; open_yet = is_open.open_yet }
+returns-clause-lay_down g c = lays (job_fits g.J.RowJob.plan g.J.RowJob.begun)
 
 pub returns-clause-lay_above : goal.returns-clause-lay_above
 returns-clause-lay_above g c = lays_taken (job_fits g.J.RowJob.plan g.J.RowJob.begun)
 
 pub returns-clause-pick_up : goal.returns-clause-pick_up
-returns-clause-pick_up g c = λ slots id r me claim is_open. picks (job_fits g.J.RowJob.plan g.J.RowJob.begun) slots id r me claim record { live = is_open.live; mine = is_open.mine; open_yet = is_open.open_yet }
+returns-clause-pick_up g c = picks (job_fits g.J.RowJob.plan g.J.RowJob.begun)
 
 pub returns-clause-publish : goal.returns-clause-publish
-returns-clause-publish g c = λ slots id r me claim x cs is_open. publishes (job_fits g.J.RowJob.plan g.J.RowJob.begun) slots id r me claim x cs record { live = is_open.live; mine = is_open.mine; open_yet = is_open.open_yet }
+returns-clause-publish g c = publishes (job_fits g.J.RowJob.plan g.J.RowJob.begun)
 
 pub returns-clause-lose : goal.returns-clause-lose
-returns-clause-lose g c = λ slots id r me claim is_open. loses (job_fits g.J.RowJob.plan g.J.RowJob.begun) slots id r me claim record { live = is_open.live; mine = is_open.mine; open_yet = is_open.open_yet }
+returns-clause-lose g c = loses (job_fits g.J.RowJob.plan g.J.RowJob.begun)
 
 pub returns-clause-take : goal.returns-clause-take
 returns-clause-take g c = syncs (job_fits g.J.RowJob.plan g.J.RowJob.begun)

@@ -4,7 +4,7 @@ use Rattle.row_board.specs.declared.piece.Piece.TheVariants.{Nothing, Job}
 use Rattle.row_board.specs.Rows.{job_fits, claims, finds, claim_of}
 use Rattle.row_board.specs.declared.knowledge.Stage.TheVariants.{Open}
 use Rattle.row_board.proofs.Claims.{claim-here}
-use Rattle.row_board.proofs.Keeps.{IsOpen, claims_next, lays}
+use Rattle.row_board.proofs.Keeps.{claims_next, lays}
 use Rattle.row_board.proofs.board.Board.claim.Goals as goal
 
 pub fetch_add-old-requires : goal.fetch_add-old-requires

@@ -3,7 +3,7 @@ use Rattle.row_board.specs.declared.knowledge.Stage.TheVariants.{Lost}
 use Rattle.row_board.specs.Rows.{job_fits, claim_of, change, at_stage}
 use Rattle.row_board.specs.declared.knowledge.Claimed.{Claimed}
 use Rattle.row_board.proofs.Claims.{Inside, inside-claim, inside-change}
-use Rattle.row_board.proofs.Keeps.{IsOpen, loses}
+use Rattle.row_board.proofs.Keeps.{loses}
 use Rattle.row_board.proofs.board.Board.lose.Goals as goal
 
 pub store-requires : goal.store-requires

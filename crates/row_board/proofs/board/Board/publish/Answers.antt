@@ -6,7 +6,7 @@ use Rattle.row_board.specs.declared.knowledge.Knowledge.{Knowledge}
 use Rattle.row_board.specs.Rows.{job_fits, claim_of, change, at_stage, wanted}
 use Rattle.row_board.specs.declared.knowledge.Claimed.{Claimed}
 use Rattle.row_board.proofs.Claims.{Inside, same_claim, inside-claim, inside-change}
-use Rattle.row_board.proofs.Keeps.{IsOpen, picks, publishes}
+use Rattle.row_board.proofs.Keeps.{picks, publishes}
 use Rattle.row_board.proofs.board.Board.publish.Goals as goal
 
 pub load-requires : goal.load-requires
