@@ -1,7 +1,13 @@
 //! The rule of the board as a law: what is public here is a theorem, and the functions do nothing.
+ghost use Rattle.atomic_table.specs.Table.{State};
+ghost use Rattle.row_board.specs.declared.piece.Piece.{Piece};
+ghost use Rattle.row_board.specs.Rows.{Kept, job_fits};
+ghost use Rattle.row_board.specs.OneWave.{IsOneWave};
 ghost use Rattle.row_board.specs.Laws.{HoldsAtFirst, KeptByClaim, KeptByLayingDown, KeptByLayingAbove, KeptByPickingUp, KeptByPublish, KeptByLose, KeptByTake, KeptBySplit, KeptByJoin};
 
 use crate::board::{Board, RowSeat};
+use crate::knowledge::Knowledge;
+use crate::piece::Piece;
 use crate::row::Row;
 use row_core::RowJob;
 
@@ -18,6 +24,13 @@ pub fn each_step_keeps_the_rule<J: RowJob>()
     ensures take { KeptByTake J.plan J.begun }
     ensures split { KeptBySplit J.plan J.begun }
     ensures join { KeptByJoin J.plan J.begun }
+{}
+
+/// Where the table's rule holds, its words and seats show a state of the wavefront machine: word 0 shows which rows are claimed, a row's
+/// word whether it is published or lost, and a 2 that the row below has synced; what each seat knows of its rows is so; and lawful
+/// events lead to this state.
+pub fn each_table_shows_a_wave<J: RowJob>()
+    ensures { (table : State (Piece J) Knowledge) → Kept (job_fits J.plan J.begun) table → IsOneWave table }
 {}
 
 fn is_send<T: Send>() {}
