@@ -1,0 +1,164 @@
+//! Boards of rows of two units, whose contexts take one step each.
+ghost use Rattle.std.specs.Prelude.{◌≡◌, ◌≤◌, ◌^◌, [], true, false, IfOk, Some, None, if◌then◌else◌};
+ghost use Rattle.std.specs.Option.{option_map_or};
+ghost use Rattle.h265_model.specs.Contexts.{start, step};
+ghost use Rattle.h265_model.specs.declared.leaf.SliceKind.TheVariants.{I};
+ghost use Rattle.row_board.specs.declared.knowledge.Claimed.{Claimed};
+ghost use Rattle.row_board.specs.declared.knowledge.Stage.TheVariants.{Open};
+ghost use Rattle.row_board.specs.Rows.{job_fits, claim_of};
+
+use crate::{Board, Contexts, NoMemory, Row, RowJob, RowSeat, SyncError};
+use h265_model::SliceKind;
+use std::alloc::Global;
+use std::test::Fail;
+
+// A job of a row of two units that hands on its contexts after a step of the first.
+#[derive(Drop)]
+struct Steps {
+    alloc: Global,
+    number: u32,
+    begun: bool,
+    // Whether it inherited contexts, and then these.
+    inherits: bool,
+    inherited: Contexts,
+    coded: u32,
+}
+
+impl RowJob for Steps {
+    ghost plan = { λ j. record {
+      width = 2;
+      second = λ inherited. step (option_map_or (λ contexts. contexts) inherited (start I)) 0 true;
+      bytes = λ inherited. [];
+    } };
+
+    ghost begun = { λ j. j.begun };
+
+    ghost inherits = { λ j. if j.inherits then Some j.inherited else None };
+
+    ghost coded = { λ j. j.coded };
+
+    fn width(&self) -> u32 {
+        2
+    }
+
+    fn begin(&mut self, inherited: Option<Contexts>) {
+        self.begun = true;
+        self.coded = 0;
+        self.inherits = false;
+        if let Some(contexts) = inherited {
+            self.inherits = true;
+            self.inherited = contexts;
+        }
+    }
+
+    fn code_next(&mut self) -> Result<(), NoMemory> {
+        self.coded += 1;
+        Ok(())
+    }
+
+    fn contexts(&self) -> Contexts {
+        let mut contexts = if self.inherits {
+            self.inherited
+        } else {
+            Contexts::start(SliceKind::I)
+        };
+        contexts.step(0, true);
+        contexts
+    }
+
+    fn finish(self) -> Result<Vec<u8>, NoMemory> {
+        Ok(Vec::new(self.alloc))
+    }
+}
+
+// A job that wasn't begun.
+fn job(alloc: Global, number: u32) -> Steps
+    ensures { result.begun ≡ false }
+{
+    Steps {
+        alloc,
+        number,
+        begun: false,
+        inherits: false,
+        inherited: Contexts::start(SliceKind::P),
+        coded: 0,
+    }
+}
+
+// A board of two rows, and its first seat.
+fn two_rows(alloc: Global) -> Result<(Board<Steps>, RowSeat<Steps>), NoMemory>
+    ensures board { IfOk result (λ b. b.1.table ≡ b.0) }
+    ensures width { IfOk result (λ b. b.1.knows.width ≡ 2) }
+    ensures rows { IfOk result (λ b. b.1.knows.rows ≡ []) }
+    ensures goes_on { IfOk result (λ b. b.1.knows.met_none ≡ false) }
+    ensures whole { IfOk result (λ b. b.1.knows.weight ≡ 2 ^ 32) }
+{
+    let mut jobs = Vec::new(alloc);
+    jobs.push(job(alloc, 0))?;
+    jobs.push(job(alloc, 1))?;
+    Board::new(alloc, jobs)
+}
+
+// Codes the first two units of a row.
+fn code_two<J: RowJob>(job: J, inherited: Option<Contexts>) -> Result<Contexts, NoMemory>
+    requires fresh { J.begun job ≡ false }
+    requires wide { 2 ≤ (J.plan job).width }
+    ensures { IfOk result (λ contexts. contexts ≡ (J.plan job).second inherited) }
+{
+    let mut job = job;
+    job.begin(inherited);
+    job.code_next()?;
+    job.code_next()?;
+    Ok(job.contexts())
+}
+
+#[test]
+fn contexts_go_from_row_to_row(rt: HostRuntime) -> Result<(), Fail> {
+    let Ok((board, mut seat)) = two_rows(rt.alloc()) else {
+        panic!(rt; "no memory")
+    };
+    let Some((first, job)) = board.claim(&mut seat) else {
+        panic!(rt; "two rows")
+    };
+    let Some((second, next_job)) = board.claim(&mut seat) else {
+        panic!(rt; "two rows")
+    };
+    assert!(rt; first.number() == 0);
+    assert!(rt; second.number() == 1);
+    assert!(rt; job.number == 0 && next_job.number == 1);
+    let Err(missed) = board.try_sync(&mut seat, &second) else {
+        panic!(rt; "nothing was shown")
+    };
+    assert_eq!(rt; missed, SyncError::NotYet { word: 0 });
+    let shown = code_two(job, None)?;
+    board.publish(&mut seat, &first, shown);
+    let Ok(taken) = board.try_sync(&mut seat, &second) else {
+        panic!(rt; "contexts were shown")
+    };
+    assert_eq!(rt; taken.as_slice(), shown.as_slice());
+    assert!(rt; taken.get(0) == 3);
+    assert!(rt; board.claim(&mut seat).is_none());
+    board.close(seat);
+    Ok(())
+}
+
+#[test]
+fn a_lost_row_shows_no_contexts(rt: HostRuntime) -> Result<(), Fail> {
+    let Ok((board, mut seat)) = two_rows(rt.alloc()) else {
+        panic!(rt; "no memory")
+    };
+    let Some((first, _)) = board.claim(&mut seat) else {
+        panic!(rt; "two rows")
+    };
+    let Some((second, _)) = board.claim(&mut seat) else {
+        panic!(rt; "two rows")
+    };
+    assert!(rt; first.number() == 0);
+    assert!(rt; second.number() == 1);
+    board.lose(&mut seat, &first);
+    let Err(missed) = board.try_sync(&mut seat, &second) else {
+        panic!(rt; "the row above was lost")
+    };
+    assert_eq!(rt; missed, SyncError::Lost { word: 3 });
+    Ok(())
+}
