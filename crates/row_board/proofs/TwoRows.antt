@@ -5,12 +5,9 @@ use Rattle.row_board.specs.declared.knowledge.Claimed.{Claimed}
 use Rattle.row_board.specs.declared.knowledge.Knowledge.{Knowledge}
 use Rattle.row_board.specs.declared.board.SyncError.{SyncError}
 use Rattle.row_board.specs.declared.board.SyncError.TheVariants.{NotYet, Lost}
-use Rattle.row_board.specs.Rows.{claim_of, claims, finds}
+use Rattle.row_board.specs.Rows.{claim_of, opened, claims, finds}
 use Rattle.row_board.specs.Standing.{SyncMissed}
 use Rattle.row_board.proofs.Claims.{claim-here, claim-later}
-
-abbrev pub opened : ℕ → Claimed
-opened r = record { row = r; stage = Open; synced = false }
 
 -- the claims after one call more
 abbrev pub HasClaimed : Knowledge → ℕ → Knowledge → Type 0

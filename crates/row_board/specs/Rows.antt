@@ -97,8 +97,12 @@ pub record Kept {J : Type 0} (fits : ℕ → List (List ℕ) → List (List ℕ)
 abbrev pub finds : Knowledge → ℕ → ℕ → Knowledge
 finds v place n = record v { found = v.found + 1; place = place; last = n }
 
+-- a row that was just claimed
+abbrev pub opened : ℕ → Claimed
+opened r = record { row = r; stage = Open; synced = false }
+
 abbrev pub claims : Knowledge → ℕ → Knowledge
-claims v r = record v { rows = record { row = r; stage = Open; synced = false } ∷ v.rows; picked = r + 1 }
+claims v r = record v { rows = opened r ∷ v.rows; picked = r + 1 }
 
 abbrev pub meets_none : Knowledge → Knowledge
 meets_none v = record v { met_none = true }

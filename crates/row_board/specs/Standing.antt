@@ -38,6 +38,14 @@ HasUnsynced v r = (c : Claimed) × (claim_of r v.rows ≡ Some c) × (c.synced �
 abbrev pub IsSynced : Knowledge → ℕ → Type 0
 IsSynced v r = 0 < r → (c : Claimed) × (claim_of r v.rows ≡ Some c) × (c.synced ≡ true)
 
+-- what no call on the rows changes of a seat that hasn't met the end
+pub record IsSame (v w : Knowledge) : Type 0 where
+  pub weight : w.weight ≡ v.weight
+  pub width : w.width ≡ v.width
+  pub want : w.want ≡ v.want
+  pub give : w.give ≡ v.give
+  pub met_none : w.met_none ≡ v.met_none
+
 -- the word that was found is that of the error
 abbrev pub SyncMissed : Knowledge → ℕ → Knowledge → SyncError → Type 0
 SyncMissed v r w (NotYet n) = (n ≡ 0) × (w ≡ finds v r 0)

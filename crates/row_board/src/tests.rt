@@ -1,16 +1,17 @@
 //! Boards of rows of two units, whose contexts take one step each.
-ghost use Rattle.std.specs.Prelude.{◌≡◌, ◌≤◌, ◌^◌, [], true, false, IfOk, Some, None, if◌then◌else◌};
+ghost use Rattle.std.specs.Prelude.{◌≡◌, ◌≤◌, ◌<◌, ◌-◌, ◌^◌, [], true, false, IfOk, IfSome, Some, None, if◌then◌else◌};
 ghost use Rattle.std.specs.Option.{option_map_or};
 ghost use Rattle.h265_model.specs.Contexts.{start, step};
 ghost use Rattle.h265_model.specs.declared.leaf.SliceKind.TheVariants.{I};
-ghost use Rattle.row_board.specs.declared.knowledge.Claimed.{Claimed};
-ghost use Rattle.row_board.specs.declared.knowledge.Stage.TheVariants.{Open};
-ghost use Rattle.row_board.specs.Rows.{job_fits, claim_of};
+ghost use Rattle.row_board.specs.Rows.{job_fits, claim_of, opened, wanted, change, in_sync};
+ghost use Rattle.row_board.specs.Standing.{HasUnsynced, IsSame};
 
 use crate::{Board, Contexts, NoMemory, Row, RowJob, RowSeat, SyncError};
 use h265_model::SliceKind;
 use std::alloc::Global;
+use std::sync::Wait;
 use std::test::Fail;
+use std::thread;
 
 // A job of a row of two units that hands on its contexts after a step of the first.
 #[derive(Drop)]
@@ -112,6 +113,84 @@ fn code_two<J: RowJob>(job: J, inherited: Option<Contexts>) -> Result<Contexts, 
     Ok(job.contexts())
 }
 
+// Waits until the row above shows its contexts, and takes them; or gives nothing where it is lost.
+fn wait_for_above<J: RowJob>(
+    rt: &impl Wait,
+    board: &Board<J>,
+    seat: &mut RowSeat<J>,
+    row: &Row,
+) -> Option<Contexts>
+    requires board { seat.old.table ≡ board.now }
+    requires below { 0 < row.now }
+    requires mine { HasUnsynced seat.old.knows row.now }
+    ensures board { seat.new.table ≡ seat.old.table }
+    ensures same { IsSame seat.old.knows seat.new.knows }
+    ensures some { IfSome result (λ x. (x ≡ wanted seat.old.knows.want (row.now - 1)) × (seat.new.knows.rows ≡ change row.now in_sync seat.old.knows.rows)) }
+{
+    for _ in rt.forever() {
+        match board.try_sync(seat, row) {
+            Ok(contexts) => return Some(contexts),
+            Err(SyncError::Lost { word: _ }) => return None,
+            Err(SyncError::NotYet { word: _ }) => (),
+        }
+    }
+    unreachable!()
+}
+
+// Takes the contexts of the row above, where there is one, codes two units, and shows the contexts of this row.
+fn pass_on<J: RowJob>(
+    rt: &impl Wait,
+    board: &Board<J>,
+    seat: &mut RowSeat<J>,
+    row: &Row,
+    job: J,
+) -> Option<Contexts>
+    requires board { seat.old.table ≡ board.now }
+    requires wide { seat.old.knows.width ≡ 2 }
+    requires mine { claim_of row.now seat.old.knows.rows ≡ Some (opened row.now) }
+    requires fits { job_fits J.plan J.begun seat.old.knows.width seat.old.knows.want seat.old.knows.give row.now job }
+    ensures board { seat.new.table ≡ seat.old.table }
+    ensures same { IsSame seat.old.knows seat.new.knows }
+{
+    let inherited = if row.number() == 0 {
+        None
+    } else {
+        Some(wait_for_above(rt, board, seat, row)?)
+    };
+    let contexts = code_two(job, inherited).ok()?;
+    board.publish(seat, row, contexts);
+    Some(contexts)
+}
+
+// What a worker did: the sum of the first bytes of the contexts that it showed.
+#[derive(Drop)]
+struct Worked<J> {
+    seat: RowSeat<J>,
+    sum: u32,
+}
+
+// Claims rows and passes contexts on until no row is left.
+fn work<J: RowJob>(rt: &impl Wait, board: &Board<J>, seat: RowSeat<J>) -> Worked<J>
+    requires board { seat.table ≡ board.now }
+    requires wide { seat.knows.width ≡ 2 }
+    requires goes_on { seat.knows.met_none ≡ false }
+    ensures board { result.seat.table ≡ board.now }
+    ensures share { result.seat.knows.weight ≡ seat.knows.weight }
+{
+    let mut seat = seat;
+    let mut sum = 0u32;
+    for _ in 0..3 {
+        let Some((row, job)) = board.claim(&mut seat) else {
+            break;
+        };
+        let Some(contexts) = pass_on(rt, board, &mut seat, &row, job) else {
+            break;
+        };
+        sum = sum.saturating_add(contexts.get(0) as u32);
+    }
+    Worked { seat, sum }
+}
+
 #[test]
 fn contexts_go_from_row_to_row(rt: HostRuntime) -> Result<(), Fail> {
     let Ok((board, mut seat)) = two_rows(rt.alloc()) else {
@@ -160,5 +239,22 @@ fn a_lost_row_shows_no_contexts(rt: HostRuntime) -> Result<(), Fail> {
         panic!(rt; "the row above was lost")
     };
     assert_eq!(rt; missed, SyncError::Lost { word: 3 });
+    Ok(())
+}
+
+#[test]
+fn two_threads_pass_contexts_on(rt: HostRuntime) -> Result<(), Fail> {
+    let Ok((board, seat)) = two_rows(rt.alloc()) else {
+        panic!(rt; "no memory")
+    };
+    let (first, second) = board.split(seat);
+    let (first, second) = thread::join(
+        &rt,
+        || work(&rt, &board, first),
+        || work(&rt, &board, second),
+    );
+    assert!(rt; first.sum.saturating_add(second.sum) == 3 + 5);
+    let whole = board.join(first.seat, second.seat);
+    board.close(whole);
     Ok(())
 }

@@ -1,9 +1,9 @@
 use Rattle.std.proofs.Common.{rules, arith, refl, ◌≡◌, ◌≢◌, ap, ◌∙◌, ℕ}
 use Rattle.row_board.specs.declared.knowledge.Stage.TheVariants.{Lost}
 use Rattle.row_board.specs.declared.knowledge.Knowledge.{Knowledge}
-use Rattle.row_board.specs.Rows.{claim_of, at_stage}
+use Rattle.row_board.specs.Rows.{claim_of, at_stage, opened}
 use Rattle.row_board.proofs.Claims.{claim-change-other}
-use Rattle.row_board.proofs.TwoRows.{opened, last_claim, earlier_claim}
+use Rattle.row_board.proofs.TwoRows.{last_claim, earlier_claim}
 use Rattle.row_board.proofs.tests.a_lost_row_shows_no_contexts.Goals as goal
 
 pub lose-requires-clause-mine : goal.lose-requires-clause-mine

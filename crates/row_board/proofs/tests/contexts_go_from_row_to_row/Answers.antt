@@ -1,9 +1,9 @@
 use Rattle.std.proofs.Common.{rules, arith, refl, ◌≡◌, ◌≢◌, ap, ◌∙◌, ℕ}
 use Rattle.row_board.specs.declared.knowledge.Stage.TheVariants.{Published}
 use Rattle.row_board.specs.declared.knowledge.Knowledge.{Knowledge}
-use Rattle.row_board.specs.Rows.{claim_of, at_stage}
+use Rattle.row_board.specs.Rows.{claim_of, at_stage, opened}
 use Rattle.row_board.proofs.Claims.{claim-change-other}
-use Rattle.row_board.proofs.TwoRows.{opened, last_claim, earlier_claim, missed_rows}
+use Rattle.row_board.proofs.TwoRows.{last_claim, earlier_claim, missed_rows}
 use Rattle.row_board.proofs.tests.contexts_go_from_row_to_row.Goals as goal
 
 pub try_sync-requires-clause-mine : goal.try_sync-requires-clause-mine
