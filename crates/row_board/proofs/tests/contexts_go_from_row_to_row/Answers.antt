@@ -1,4 +1,4 @@
-use Rattle.std.proofs.Common.{rules, arith, refl, ◌≡◌, ◌≢◌, ap, ◌∙◌, ℕ}
+use Rattle.std.proofs.Common.{rules, arith, refl, ◌≡◌, ap, ◌∙◌}
 use Rattle.row_board.specs.declared.knowledge.Stage.TheVariants.{Published}
 use Rattle.row_board.specs.declared.knowledge.Knowledge.{Knowledge}
 use Rattle.row_board.specs.Rows.{claim_of, at_stage, opened}
