@@ -1,5 +1,5 @@
 -- Each step keeps the rule of the board.
-use Rattle.std.proofs.Common.{◌≡◌, ◌≢◌, ◌⊎◌, ℕ, zero, suc, ◌+◌, ◌-◌, ◌*◌, ◌^◌, ◌%◌, ◌<◌, ◌≤◌, eqb, List, [], ◌∷◌, ◌++◌, length, set, get_or, Bool, true, false, if◌then◌else◌, Option, Some, None, refl, sym, ap, ◌∙◌, subst, inl, inr, ⊎_elim, arith, length-set, get_or-set_same, get_or-set_other, true≢false}
+use Rattle.std.proofs.Common.{◌≡◌, ◌≢◌, ◌⊎◌, ℕ, ◌+◌, ◌-◌, ◌^◌, ◌%◌, ◌<◌, ◌≤◌, eqb, List, ◌∷◌, length, set, get_or, Bool, true, false, if◌then◌else◌, Some, refl, sym, ap, ◌∙◌, subst, inl, inr, ⊎_elim, arith, length-set, get_or-set_same, get_or-set_other, true≢false}
 use mathlib.Core.Logic.{dite}
 use mathlib.Core.Option.{some, none, some-injective}
 use mathlib.Core.Option as maybe
@@ -11,13 +11,12 @@ use Rattle.atomic_table.specs.Table.{State, Me, Act, Valid, carried_after, step,
 use Rattle.atomic_table.proofs.Lists.{at_set, exchanged, set_here, set_else}
 use Rattle.row_board.specs.declared.piece.Piece.{Piece}
 use Rattle.row_board.specs.declared.piece.Piece.TheVariants.{Nothing, Job, Shown}
-use Rattle.row_board.specs.declared.knowledge.Stage.{Stage}
 use Rattle.row_board.specs.declared.knowledge.Stage.TheVariants.{Open, Published, Lost}
 use Rattle.row_board.specs.declared.knowledge.Claimed.{Claimed}
 use Rattle.row_board.specs.declared.knowledge.Knowledge.{Knowledge}
 use Rattle.row_board.specs.Rows.{total, times, claim_of, change, at_stage, in_sync, wanted, ClaimIs, SeatFits, IsWord, met_weight, Kept, finds, claims, meets_none, claimed, laid, picked_up, published, lost, synced}
 use Rattle.row_board.specs.Laws.{IsOpen}
-use Rattle.row_board.proofs.Claims.{total-set, total-le, part-le, claim-here, claim-later, times-cons, claimed-once, times-change, claim-change-same, claim-change-other, alone}
+use Rattle.row_board.proofs.Claims.{total-set, total-le, claim-here, claim-later, times-cons, times-change, claim-change-same, claim-change-other, alone}
 
 module _ {J : Type 0} where
   -- a claim that a step of another seat, or at another row, does not touch

@@ -1,9 +1,9 @@
 -- Where a board's rule holds, its words and seats show a wave that lawful events lead to.
-use Rattle.std.proofs.Common.{◌≡◌, ◌≢◌, ◌⊎◌, ℕ, zero, suc, ◌+◌, ◌-◌, ◌<◌, ◌≤◌, List, [], ◌∷◌, ◌++◌, replicate, length, get_or, Bool, true, false, ◌&&◌, ◌||◌, if◌then◌else◌, Option, Some, None, refl, sym, ap, ◌∙◌, subst, inl, inr, ⊎_elim, arith, true≢false}
+use Rattle.std.proofs.Common.{◌≡◌, ◌≢◌, ℕ, suc, ◌+◌, ◌-◌, ◌<◌, ◌≤◌, List, [], ◌∷◌, replicate, length, get_or, Bool, true, false, ◌&&◌, ◌||◌, if◌then◌else◌, Some, None, refl, sym, ap, ◌∙◌, subst, ⊎_elim, arith, true≢false}
 use Rattle.std.specs.Prelude.{◌==◌, nat_lt}
 use Rattle.std.proofs.lemmas.Bool.{and_parts, or_cases, eqb-true, ltb-true, lt-ltb, eq-eqb, ne_eqb}
 use mathlib.Core.Logic.{dite}
-use mathlib.Core.Option.{some, some-ne-none}
+use mathlib.Core.Option.{some}
 use native.Mathlib.Decide.{ℕ_discrete, dec_lt}
 use lib.ListN.{get_elem?}
 use Rattle.atomic_table.specs.Table.{State}
@@ -17,7 +17,7 @@ use Rattle.row_board.specs.declared.knowledge.Knowledge.{Knowledge}
 use Rattle.row_board.specs.Rows.{total, times, claim_of, ClaimIs, Kept}
 use Rattle.row_board.specs.OneWave.{is_published, is_lost, Says, IsOneWave}
 use Rattle.row_board.proofs.Claims.{claim-here, claim-later, times-cons}
-use Rattle.row_board.proofs.Waves.{Reach, stay, and_both, or_right, at_front, in_front, done, with, row_done, claimed_front, upto, length-upto, upto_at, all_claimed, first_done, row_next, all_done}
+use Rattle.row_board.proofs.Waves.{Reach, stay, and_both, or_right, in_front, done, with, row_done, claimed_front, upto, length-upto, upto_at, all_claimed, row_next, all_done}
 
 -- ---- who claimed a row
 

@@ -1,21 +1,17 @@
 -- A new board keeps its rule.
-use Rattle.std.proofs.Common.{◌≡◌, ◌≢◌, ◌⊎◌, ℕ, zero, suc, ◌+◌, ◌-◌, ◌*◌, ◌^◌, ◌<◌, ◌≤◌, List, [], ◌∷◌, ◌++◌, map, replicate, length, get_or, Bool, true, false, if◌then◌else◌, Option, Some, None, refl, sym, ap, ◌∙◌, subst, arith, true≢false}
+use Rattle.std.proofs.Common.{◌≡◌, ℕ, zero, suc, ◌+◌, ◌^◌, ◌<◌, ◌≤◌, List, [], ◌∷◌, map, replicate, length, get_or, Bool, false, if◌then◌else◌, Some, None, refl, sym, ap, ◌∙◌, subst, arith, true≢false}
 use Rattle.std.specs.Prelude.{slice_index_or, ◌==◌}
 use Rattle.std.specs.List.{All}
 use Rattle.std.proofs.lemmas.List.FromFn.{length-map-range_with_len, get_or-map-range_with_len}
-use mathlib.Core.Option.{some, none, some-injective, some-ne-none}
-use mathlib.Core.Option as maybe
+use mathlib.Core.Option.{some, some-injective, some-ne-none}
 use lib.ListN.{get_elem?}
-use Rattle.atomic_table.specs.Table.{State, opening}
-use Rattle.h265_model.specs.Plain.{below}
+use Rattle.atomic_table.specs.Table.{opening}
 use Rattle.h265_model.specs.Wave.{Jobs, inherited, row_bytes}
 use Rattle.h265_model.specs.Board.{Fits, want_of, give_of, row_inherits}
 use Rattle.row_core.specs.Plan.{Plan}
-use Rattle.row_board.specs.declared.piece.Piece.{Piece}
-use Rattle.row_board.specs.declared.piece.Piece.TheVariants.{Nothing, Job, Shown}
-use Rattle.row_board.specs.declared.knowledge.Claimed.{Claimed}
+use Rattle.row_board.specs.declared.piece.Piece.TheVariants.{Job}
 use Rattle.row_board.specs.declared.knowledge.Knowledge.{Knowledge}
-use Rattle.row_board.specs.Rows.{total, times, claim_of, wanted, SeatFits, IsWord, met_weight, Kept, job_view, job_fits, no_plan, jobs_of, HaveWidth, width_of, opening_view}
+use Rattle.row_board.specs.Rows.{wanted, SeatFits, Kept, job_view, job_fits, no_plan, jobs_of, HaveWidth, width_of, opening_view}
 
 -- what each row hands on and gives, by the two lists
 pub want_at : (jobs : Jobs) (n r : ℕ) → r < n → wanted (want_of jobs n) r ≡ jobs.second r (inherited jobs r)

@@ -1,17 +1,16 @@
 -- A row seat is cut in two, two are joined, and the last one closes the board.
-use Rattle.std.proofs.Common.{◌≡◌, ◌≢◌, ◌⊎◌, ℕ, zero, suc, ◌+◌, ◌-◌, ◌*◌, ◌^◌, ◌<◌, ◌≤◌, ◌||◌, List, [], ◌∷◌, ◌++◌, length, set, get_or, Bool, true, false, if◌then◌else◌, Option, Some, None, refl, sym, ap, ◌∙◌, subst, inl, inr, ⊎_elim, arith, length-set, true≢false}
+use Rattle.std.proofs.Common.{◌≡◌, ◌≢◌, ◌⊎◌, ℕ, suc, ◌+◌, ◌-◌, ◌^◌, ◌<◌, ◌≤◌, ◌||◌, List, [], ◌∷◌, ◌++◌, length, set, Bool, true, false, if◌then◌else◌, Some, refl, sym, ap, ◌∙◌, subst, inl, inr, ⊎_elim, arith}
 use mathlib.Core.Logic.{dite}
-use mathlib.Core.Option.{some, none, some-injective, some-ne-none}
-use mathlib.Core.Option as maybe
+use mathlib.Core.Option.{some}
 use native.Mathlib.Decide.{ℕ_discrete}
 use lib.ListN.{get_elem?}
-use Rattle.atomic_table.specs.Table.{State, Me, Splits, Joins, Final, Seen}
+use Rattle.atomic_table.specs.Table.{State, Splits, Joins, Final, Seen}
 use Rattle.atomic_table.proofs.Lists.{at_set, at_snoc, set_else}
 use Rattle.row_board.specs.declared.piece.Piece.{Piece}
 use Rattle.row_board.specs.declared.knowledge.Claimed.{Claimed}
 use Rattle.row_board.specs.declared.knowledge.Knowledge.{Knowledge}
-use Rattle.row_board.specs.Rows.{total, times, claim_of, wanted, ClaimIs, SeatFits, met_weight, Kept, newcomer, lighter, merged, spent, AllClaimed}
-use Rattle.row_board.proofs.Claims.{total-set, part-le, claim-here, claim-later, times-cons, claimed-once}
+use Rattle.row_board.specs.Rows.{total, times, claim_of, ClaimIs, SeatFits, met_weight, Kept, newcomer, lighter, merged, spent, AllClaimed}
+use Rattle.row_board.proofs.Claims.{total-set, part-le, claim-here, claim-later}
 
 total-snoc : (f : Knowledge → ℕ) (vs : List Knowledge) (w : Knowledge) → total f (vs ++ w ∷ []) ≡ total f vs + f w
 total-snoc f [] w = omega arith

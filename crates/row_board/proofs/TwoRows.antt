@@ -1,7 +1,5 @@
 -- The claims of a seat that claimed two rows.
-use Rattle.std.proofs.Common.{◌≡◌, ◌≢◌, ℕ, List, [], ◌∷◌, false, Some, refl, sym, ap, ◌∙◌}
-use Rattle.row_board.specs.declared.knowledge.Stage.TheVariants.{Open}
-use Rattle.row_board.specs.declared.knowledge.Claimed.{Claimed}
+use Rattle.std.proofs.Common.{◌≡◌, ◌≢◌, ℕ, Some, refl, ap, ◌∙◌}
 use Rattle.row_board.specs.declared.knowledge.Knowledge.{Knowledge}
 use Rattle.row_board.specs.declared.board.SyncError.{SyncError}
 use Rattle.row_board.specs.declared.board.SyncError.TheVariants.{NotYet, Lost}

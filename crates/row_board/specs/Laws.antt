@@ -1,5 +1,5 @@
 -- What each kind of step on a board's table keeps. A step is allowed where, whatever the table is, the rule holds after it and it tells what it says.
-use Rattle.std.specs.Prelude.{◌≡◌, ◌≢◌, ℕ, ◌+◌, ◌-◌, ◌*◌, ◌^◌, ◌%◌, ◌<◌, ◌≤◌, ◌==◌, if◌then◌else◌, List, [], ◌∷◌, map, length, replicate, Bool, true, false, Some}
+use Rattle.std.specs.Prelude.{◌≡◌, ℕ, ◌+◌, ◌-◌, ◌^◌, ◌%◌, ◌<◌, ◌≤◌, ◌==◌, if◌then◌else◌, List, ◌∷◌, map, length, replicate, Bool, true, false, Some}
 use Rattle.std.specs.List.{All}
 use mathlib.Core.Option.{none}
 use Rattle.atomic_table.specs.Table.{State, Me, step, Allows, Splits, Joins, opening}

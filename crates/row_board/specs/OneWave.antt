@@ -1,5 +1,5 @@
 -- The table of a board as the definitions of the board and of the wavefront machine speak of it.
-use Rattle.std.specs.Prelude.{◌≡◌, ℕ, ◌+◌, ◌<◌, ◌==◌, ◌||◌, ◌&&◌, nat_lt, List, length, slice_index, Bool, true, false, if◌then◌else◌, IsTrue, IsFalse, Option, Some}
+use Rattle.std.specs.Prelude.{◌≡◌, ℕ, ◌<◌, List, length, Bool, true, false, IsTrue, IsFalse, Some}
 use mathlib.Core.Option.{some}
 use lib.ListN.{get_elem?}
 use Rattle.atomic_table.specs.Table.{State}

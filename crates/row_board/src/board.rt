@@ -1,9 +1,8 @@
-ghost use Rattle.std.specs.Prelude.{◌≡◌, ◌≢◌, ℕ, ◌+◌, ◌-◌, ◌*◌, ◌^◌, ◌<◌, ◌≤◌, [], ◌∷◌, true, false, length, Some, IfOk, IfErr, IfSome, IfNone, map, vec_len};
+ghost use Rattle.std.specs.Prelude.{◌≡◌, ◌≢◌, ℕ, ◌+◌, ◌-◌, ◌*◌, ◌^◌, ◌<◌, ◌≤◌, [], ◌∷◌, true, false, length, Some, IfOk, OnOk, IfErr, IfSome, IfNone, map, vec_len};
 ghost use Rattle.std.specs.List.{All};
-ghost use Rattle.row_board.specs.Rows.{wanted, claims, finds, meets_none, change, at_stage, in_sync, merged, lighter, newcomer, job_fits, AllClaimed, HaveWidth, opening_view};
-ghost use Rattle.row_board.specs.Standing.{HasOpen, HasUnsynced, IsSynced, SyncMissed};
+ghost use Rattle.row_board.specs.Rows.{wanted, merged, lighter, newcomer, job_fits, AllClaimed, HaveWidth, opening_view};
+ghost use Rattle.row_board.specs.Standing.{HasOpen, HasUnsynced, IsSynced, has_claimed, HasMetNone, has_published, has_lost, has_synced, SyncMissed};
 ghost use Rattle.row_board.specs.declared.piece.Piece.TheVariants.{Job};
-ghost use Rattle.row_board.specs.declared.knowledge.Stage.TheVariants.{Open, Published, Lost};
 
 use crate::knowledge::Knowledge;
 use crate::piece::Piece;
@@ -86,7 +85,8 @@ impl<J: RowJob> Board<J> {
         requires few { length jobs.items < 2 ^ 32 }
         requires fresh { All (λ job. J.begun job ≡ false) jobs.items }
         requires widths { (width : ℕ) × HaveWidth width (map J.plan jobs.items) }
-        ensures { IfOk result (λ b. (b.1.table ≡ b.0) × (b.1.knows ≡ opening_view (map J.plan jobs.items))) }
+        ensures board { IfOk result (λ b. b.1.table ≡ b.0) }
+        ensures knows { IfOk result (λ b. b.1.knows ≡ opening_view (map J.plan jobs.items)) }
     {
         let terms = Terms {
             jobs: Snapshot::of(&jobs),
@@ -104,8 +104,10 @@ impl<J: RowJob> Board<J> {
         requires board { seat.old.table ≡ self.now }
         requires goes_on { seat.old.knows.met_none ≡ false }
         ensures board { seat.new.table ≡ seat.old.table }
-        ensures some { IfSome result (λ r. (r.0 < length seat.old.knows.want) × (seat.new.knows ≡ record (claims (finds seat.old.knows 0 r.0) r.0) { picked = 0 }) × job_fits J.plan J.begun seat.old.knows.width seat.old.knows.want seat.old.knows.give r.0 r.1) }
-        ensures none { IfNone result ((n : ℕ) × (length seat.old.knows.want ≤ n) × (seat.new.knows ≡ meets_none (finds seat.old.knows 0 n))) }
+        ensures inside { IfSome result (λ r. r.0 < length seat.old.knows.want) }
+        ensures claimed { IfSome result (λ r. seat.new.knows ≡ has_claimed seat.old.knows r.0) }
+        ensures fits { IfSome result (λ r. job_fits J.plan J.begun seat.old.knows.width seat.old.knows.want seat.old.knows.give r.0 r.1) }
+        ensures none { IfNone result (HasMetNone seat.old.knows seat.new.knows) }
     {
         let shared = &self.table.shared;
         let old = shared.fetch_add::<Claim>(&mut seat.seat, 0, 1);
@@ -128,7 +130,7 @@ impl<J: RowJob> Board<J> {
         requires contexts { contexts ≡ wanted seat.old.knows.want row.now }
         requires synced { IsSynced seat.old.knows row.now }
         ensures board { seat.new.table ≡ seat.old.table }
-        ensures shown { seat.new.knows ≡ record seat.old.knows { rows = change row.now (at_stage Published) seat.old.knows.rows } }
+        ensures shown { seat.new.knows ≡ has_published seat.old.knows row.now }
     {
         let shared = &self.table.shared;
         let slot = row.number() as usize;
@@ -142,7 +144,7 @@ impl<J: RowJob> Board<J> {
         requires board { seat.old.table ≡ self.now }
         requires mine { HasOpen seat.old.knows row.now }
         ensures board { seat.new.table ≡ seat.old.table }
-        ensures lost { seat.new.knows ≡ record seat.old.knows { rows = change row.now (at_stage Lost) seat.old.knows.rows } }
+        ensures lost { seat.new.knows ≡ has_lost seat.old.knows row.now }
     {
         let slot = row.number() as usize;
         self.table.shared.store::<Lose>(&mut seat.seat, slot + 1, 3);
@@ -158,8 +160,9 @@ impl<J: RowJob> Board<J> {
         requires below { 0 < row.now }
         requires mine { HasUnsynced seat.old.knows row.now }
         ensures board { seat.new.table ≡ seat.old.table }
-        ensures ok { IfOk result (λ x. (x ≡ wanted seat.old.knows.want (row.now - 1)) × (seat.new.knows ≡ record (finds seat.old.knows row.now 1) { rows = change row.now in_sync seat.old.knows.rows })) }
-        ensures err { IfErr result (SyncMissed seat.old.knows row.now seat.new.knows) }
+        ensures contexts { IfOk result (λ contexts. contexts ≡ wanted seat.old.knows.want (row.now - 1)) }
+        ensures synced { OnOk result (seat.new.knows ≡ has_synced seat.old.knows row.now) }
+        ensures missed { IfErr result (SyncMissed seat.old.knows row.now seat.new.knows) }
     {
         let shared = &self.table.shared;
         let place = row.number() as usize;
@@ -183,7 +186,8 @@ impl<J: RowJob> Board<J> {
         requires board { seat.table ≡ self.now }
         requires weight { 2 ≤ seat.knows.weight }
         ensures board { (result.0.table ≡ seat.table) × (result.1.table ≡ seat.table) }
-        ensures cut { (result.0.knows ≡ lighter seat.knows) × (result.1.knows ≡ newcomer seat.knows) }
+        ensures first { result.0.knows ≡ lighter seat.knows }
+        ensures second { result.1.knows ≡ newcomer seat.knows }
     {
         let RowSeat { mut seat } = seat;
         let other = self.table.shared.split_seat::<Halve>(&mut seat);

@@ -1,4 +1,4 @@
-use Rattle.std.proofs.Common.{rules, arith, refl, ◌≡◌, ◌≢◌, ap, ◌∙◌, ℕ}
+use Rattle.std.proofs.Common.{rules, arith, refl, ◌≡◌, ap, ◌∙◌}
 use Rattle.row_board.specs.declared.knowledge.Stage.TheVariants.{Lost}
 use Rattle.row_board.specs.declared.knowledge.Knowledge.{Knowledge}
 use Rattle.row_board.specs.Rows.{claim_of, at_stage, opened}
@@ -10,7 +10,7 @@ pub lose-requires-clause-mine : goal.lose-requires-clause-mine
 lose-requires-clause-mine g c κs =
     let zero : c.in-Some.first ≡ 0 = search rules in
     let one : c.in-Some-claim.second ≡ 1 = search rules in
-    (opened c.in-Some.first, earlier_claim c.in-Ok.seat.knows c.claim.new.seat.knows c.claim-2.new.seat.knows c.in-Some.first c.in-Some-claim.second c.in-Some.ensures.some.1 c.in-Some-claim.ensures.some.1 (λ e. omega arith), refl)
+    (opened c.in-Some.first, earlier_claim c.in-Ok.seat.knows c.claim.new.seat.knows c.claim-2.new.seat.knows c.in-Some.first c.in-Some-claim.second c.in-Some.ensures.claimed c.in-Some-claim.ensures.claimed (λ e. omega arith), refl)
 
 pub try_sync-requires-clause-mine : goal.try_sync-requires-clause-mine
 try_sync-requires-clause-mine g c κs =
@@ -19,6 +19,6 @@ try_sync-requires-clause-mine g c κs =
     let b = c.in-Some-claim.second in (
       opened b,
       ap (λ (v : Knowledge). claim_of b v.rows) c.lose.ensures.lost
-          ∙ (claim-change-other (at_stage Lost) (λ _. refl) b c.in-Some.first c.claim-2.new.seat.knows.rows (λ e. omega arith) ∙ last_claim c.claim.new.seat.knows c.claim-2.new.seat.knows b c.in-Some-claim.ensures.some.1),
+          ∙ (claim-change-other (at_stage Lost) (λ _. refl) b c.in-Some.first c.claim-2.new.seat.knows.rows (λ e. omega arith) ∙ last_claim c.claim.new.seat.knows c.claim-2.new.seat.knows b c.in-Some-claim.ensures.claimed),
       refl,
     )

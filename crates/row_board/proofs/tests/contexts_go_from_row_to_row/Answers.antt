@@ -1,4 +1,4 @@
-use Rattle.std.proofs.Common.{rules, arith, refl, ◌≡◌, ◌≢◌, ap, ◌∙◌, ℕ}
+use Rattle.std.proofs.Common.{rules, arith, refl, ◌≡◌, ap, ◌∙◌}
 use Rattle.row_board.specs.declared.knowledge.Stage.TheVariants.{Published}
 use Rattle.row_board.specs.declared.knowledge.Knowledge.{Knowledge}
 use Rattle.row_board.specs.Rows.{claim_of, at_stage, opened}
@@ -7,7 +7,7 @@ use Rattle.row_board.proofs.TwoRows.{last_claim, earlier_claim, missed_rows}
 use Rattle.row_board.proofs.tests.contexts_go_from_row_to_row.Goals as goal
 
 pub try_sync-requires-clause-mine : goal.try_sync-requires-clause-mine
-try_sync-requires-clause-mine g c κs = (opened c.in-Some-claim.second, last_claim c.claim.new.seat.knows c.claim-2.new.seat.knows c.in-Some-claim.second c.in-Some-claim.ensures.some.1, refl)
+try_sync-requires-clause-mine g c κs = (opened c.in-Some-claim.second, last_claim c.claim.new.seat.knows c.claim-2.new.seat.knows c.in-Some-claim.second c.in-Some-claim.ensures.claimed, refl)
 
 pub publish-requires-clause-mine : goal.publish-requires-clause-mine
 publish-requires-clause-mine g c κs =
@@ -15,7 +15,7 @@ publish-requires-clause-mine g c κs =
     let one : c.in-Some-claim.second ≡ 1 = search rules in
     let a = c.in-Some.first in (
       opened a,
-      ap (claim_of a) (missed_rows c.claim-2.new.seat.knows c.try_sync.new.seat.knows c.in-Some-claim.second c.in-Err.missed c.in-Err.ensures.err) ∙ earlier_claim c.in-Ok.seat.knows c.claim.new.seat.knows c.claim-2.new.seat.knows a c.in-Some-claim.second c.in-Some.ensures.some.1 c.in-Some-claim.ensures.some.1 (λ e. omega arith),
+      ap (claim_of a) (missed_rows c.claim-2.new.seat.knows c.try_sync.new.seat.knows c.in-Some-claim.second c.in-Err.missed c.in-Err.ensures.missed) ∙ earlier_claim c.in-Ok.seat.knows c.claim.new.seat.knows c.claim-2.new.seat.knows a c.in-Some-claim.second c.in-Some.ensures.claimed c.in-Some-claim.ensures.claimed (λ e. omega arith),
       refl,
     )
 
@@ -27,6 +27,6 @@ try_sync-requires-2-clause-mine g c κs =
       opened b,
       ap (λ (v : Knowledge). claim_of b v.rows) c.publish.ensures.shown
           ∙ (claim-change-other (at_stage Published) (λ _. refl) b c.in-Some.first c.try_sync.new.seat.knows.rows (λ e. omega arith)
-          ∙ (ap (claim_of b) (missed_rows c.claim-2.new.seat.knows c.try_sync.new.seat.knows c.in-Some-claim.second c.in-Err.missed c.in-Err.ensures.err) ∙ last_claim c.claim.new.seat.knows c.claim-2.new.seat.knows b c.in-Some-claim.ensures.some.1)),
+          ∙ (ap (claim_of b) (missed_rows c.claim-2.new.seat.knows c.try_sync.new.seat.knows c.in-Some-claim.second c.in-Err.missed c.in-Err.ensures.missed) ∙ last_claim c.claim.new.seat.knows c.claim-2.new.seat.knows b c.in-Some-claim.ensures.claimed)),
       refl,
     )

@@ -1,4 +1,4 @@
-use Rattle.std.proofs.Common.{arith, refl, ◌≡◌, ◌<◌, ap, ◌∙◌, ℕ}
+use Rattle.std.proofs.Common.{arith, refl, ap, ◌∙◌}
 use Rattle.row_board.specs.Rows.{claim_of, opened, in_sync}
 use Rattle.row_board.specs.Standing.{Standing}
 use Rattle.row_board.proofs.Claims.{claim-change-same}

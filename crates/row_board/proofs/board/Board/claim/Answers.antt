@@ -1,7 +1,7 @@
-use Rattle.std.proofs.Common.{rules, arith, refl, ◌≡◌, ◌<◌, ◌+◌, ◌∷◌, false, [], Some, sym, ap, ◌∙◌, subst, ℕ}
+use Rattle.std.proofs.Common.{rules, refl, ◌<◌, ◌∷◌, false, sym, ap, ◌∙◌, subst, ℕ}
 use Rattle.atomic_table.specs.Table.{rest}
-use Rattle.row_board.specs.declared.piece.Piece.TheVariants.{Nothing, Job}
-use Rattle.row_board.specs.Rows.{job_fits, claims, finds, claim_of}
+use Rattle.row_board.specs.declared.piece.Piece.TheVariants.{Job}
+use Rattle.row_board.specs.Rows.{job_fits, claim_of}
 use Rattle.row_board.specs.declared.knowledge.Stage.TheVariants.{Open}
 use Rattle.row_board.proofs.Claims.{claim-here}
 use Rattle.row_board.proofs.Keeps.{claims_next, lays}

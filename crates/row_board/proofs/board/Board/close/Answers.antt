@@ -1,5 +1,4 @@
-use Rattle.std.proofs.Common.{◌≡◌, ◌^◌, sym, ap, ◌∙◌, subst, ℕ}
-use Rattle.row_board.specs.declared.knowledge.Knowledge.{Knowledge}
+use Rattle.std.proofs.Common.{ap, ◌∙◌, subst}
 use Rattle.row_board.specs.Rows.{job_fits, AllClaimed}
 use Rattle.row_board.proofs.Sharing.{closes}
 use Rattle.row_board.proofs.board.Board.close.Goals as goal

@@ -1,4 +1,4 @@
-use Rattle.std.proofs.Common.{rules, sym, ap, subst, ℕ}
+use Rattle.std.proofs.Common.{rules}
 use Rattle.row_board.specs.Rows.{job_fits}
 use Rattle.row_board.proofs.Sharing.{joins}
 use Rattle.row_board.proofs.board.Board.join.Goals as goal

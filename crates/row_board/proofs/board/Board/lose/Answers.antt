@@ -1,6 +1,6 @@
 use Rattle.std.proofs.Common.{rules, arith, refl, ◌≡◌, ◌<◌, ◌+◌, length, List, Some, sym, ap, ◌∙◌, subst, ℕ}
 use Rattle.row_board.specs.declared.knowledge.Stage.TheVariants.{Lost}
-use Rattle.row_board.specs.Rows.{job_fits, claim_of, change, at_stage}
+use Rattle.row_board.specs.Rows.{job_fits, claim_of, at_stage}
 use Rattle.row_board.specs.declared.knowledge.Claimed.{Claimed}
 use Rattle.row_board.proofs.Claims.{Inside, inside-claim, inside-change}
 use Rattle.row_board.proofs.Keeps.{loses}

@@ -1,4 +1,4 @@
-use Rattle.std.proofs.Common.{rules, arith, refl, add-one, replicate, ◌≡◌, ◌<◌, ◌+◌, ◌^◌, ◌∷◌, [], map, length, List, sym, ap, ◌∙◌, subst, ℕ}
+use Rattle.std.proofs.Common.{rules, arith, refl, add-one, replicate, ◌≡◌, ◌<◌, ◌+◌, ◌∷◌, map, length, List, sym, ap, ◌∙◌, subst, ℕ}
 use Rattle.std.proofs.lemmas.Grind.{common_steps}
 use Rattle.atomic_table.specs.Table.{opening}
 use Rattle.row_board.specs.declared.piece.Piece.{Piece}

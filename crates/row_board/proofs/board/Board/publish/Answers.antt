@@ -1,6 +1,6 @@
-use Rattle.std.proofs.Common.{rules, arith, refl, ◌≡◌, ◌<◌, ◌≤◌, ◌+◌, ◌∷◌, [], length, List, Some, sym, ap, ◌∙◌, subst, ℕ}
+use Rattle.std.proofs.Common.{rules, arith, refl, ◌≡◌, ◌<◌, ◌≤◌, ◌+◌, ◌∷◌, length, List, Some, sym, ap, ◌∙◌, subst, ℕ}
 use Rattle.atomic_table.specs.Table.{rest}
-use Rattle.row_board.specs.declared.piece.Piece.TheVariants.{Nothing, Shown}
+use Rattle.row_board.specs.declared.piece.Piece.TheVariants.{Nothing}
 use Rattle.row_board.specs.declared.knowledge.Stage.TheVariants.{Published}
 use Rattle.row_board.specs.declared.knowledge.Knowledge.{Knowledge}
 use Rattle.row_board.specs.Rows.{job_fits, claim_of, change, at_stage, wanted}

@@ -1,9 +1,9 @@
-use Rattle.std.proofs.Common.{rules, arith, refl, ◌≡◌, ◌≢◌, Some, ◌⊎◌, ◌<◌, ◌+◌, ◌-◌, ◌∷◌, [], true, List, length, sym, ap, ◌∙◌, subst, ⊎_elim, ℕ}
+use Rattle.std.proofs.Common.{rules, arith, refl, ◌≡◌, ◌≢◌, Some, ◌⊎◌, ◌<◌, ◌-◌, ◌∷◌, List, length, sym, ap, ◌∙◌, subst, ⊎_elim, ℕ}
 use mathlib.Core.Logic.{dite}
 use native.Mathlib.Decide.{ℕ_discrete}
 use Rattle.atomic_table.specs.Table.{rest}
-use Rattle.row_board.specs.declared.piece.Piece.TheVariants.{Nothing, Shown}
-use Rattle.row_board.specs.Rows.{job_fits, claim_of, change, in_sync, wanted}
+use Rattle.row_board.specs.declared.piece.Piece.TheVariants.{Shown}
+use Rattle.row_board.specs.Rows.{job_fits, claim_of, in_sync}
 use Rattle.row_board.specs.declared.knowledge.Claimed.{Claimed}
 use Rattle.row_board.proofs.Claims.{Inside, inside-claim, inside-change, claim-change-same}
 use Rattle.row_board.proofs.Keeps.{syncs, lays_taken}
