@@ -9,7 +9,7 @@ pub publish-requires-clause-mine : goal.publish-requires-clause-mine
 publish-requires-clause-mine g c κs within =
     let r = c.args.row.now in
     elim c.if-number-eq0.branch [
-      then-number-eq0 w ↦ (opened r, ap (λ (s : Standing). claim_of r s.knows.rows) w.seat-is ∙ c.requires.mine, refl)
+      | then-number-eq0 w ↦ (opened r, ap (λ (s : Standing). claim_of r s.knows.rows) w.seat-is ∙ c.requires.mine, refl)
       | else-number-eq0+in_ok-wait_for_above w ↦ (
         in_sync (opened r),
         ap (λ (s : Standing). claim_of r s.knows.rows) w.seat-is
@@ -22,7 +22,7 @@ pub publish-requires-clause-synced : goal.publish-requires-clause-synced
 publish-requires-clause-synced g c κs within = λ below.
     let r = c.args.row.now in
     elim c.if-number-eq0.branch [
-      then-number-eq0 w ↦ absurd (let zero = w.if-number-eq0.true in let is = c.number.ensures in omega arith)
+      | then-number-eq0 w ↦ absurd (let zero = w.if-number-eq0.true in let is = c.number.ensures in omega arith)
       | else-number-eq0+in_ok-wait_for_above w ↦ (
         in_sync (opened r),
         ap (λ (s : Standing). claim_of r s.knows.rows) w.seat-is
