@@ -14,6 +14,7 @@ PIXEL_COST = 6  # characters that a pixel takes in a blit
 LINE_COST = 32  # characters that a line is reckoned at, beside the pixels of a blit
 FAR_APART = 16  # a gap of so many rows or columns parts what is likely not one thing
 SAMPLES = 400  # the pixels that are looked at for a colour
+FAINT = 0.25  # an edge along fewer of a row's pixels is none
 ZERO_OR_ONE = bytes([0]) + bytes([1]) * 255
 MARKED = re.compile(rb"\x01+")
 
@@ -90,7 +91,7 @@ def common_colour(part, pixels):
     return seen.most_common(1)[0][0] if seen else None
 
 
-def frame_colour(part, pixels):
+def border_colour(part, pixels):
     """The colour of the part's four sides, where they have one colour."""
     colour, row = pixels[:3], 3 * part.wide
     if pixels[:row] != colour * part.wide or pixels[-row:] != colour * part.wide:
@@ -112,7 +113,7 @@ def filled(part, pixels, colour):
 def try_fill(part, pixels):
     """A colour that is worth a fill of the whole part, and the part afterwards; or None."""
     wrong = part.marks.count(1)
-    colour = frame_colour(part, pixels)
+    colour = border_colour(part, pixels)
     if colour is not None:
         after = filled(part, pixels, colour)
         spoilt = either(part.marks, after.marks).count(1) - wrong
@@ -193,25 +194,28 @@ def blits(part, pixels):
 
 
 def sharpest_row(part, pixels):
-    """(share, -, row) of the row that differs most from the one above it, in colours or in marks, and by which share of its
-    pixels; of equal ones the one nearest to the middle."""
+    """(share, row): the row that differs most from the one above it, in colours or in marks, and in which share of its pixels;
+    of equal ones the one nearest to the middle. A part of one row has no edge."""
     wide = part.wide
+    if part.high == 1:
+        return 0, 0
     changes = differing(pixels[3 * wide:], pixels[:-3 * wide])
     moved = int.from_bytes(part.marks[wide:], "little") ^ int.from_bytes(part.marks[:-wide], "little")
     changes = either(changes, moved.to_bytes(len(changes), "little"))
     counts = [changes.count(1, at, at + wide) for at in range(0, len(changes), wide)]
-    return max((count / wide, -abs(2 * row - part.high), row) for row, count in enumerate(counts, 1))
+    most, _, row = max((count, -abs(2 * row - part.high), row) for row, count in enumerate(counts, 1))
+    return most / wide, row
 
 
 def halves(part, pixels):
     """The part cut in two at its sharpest edge, or in the middle of its longer side where it has none."""
-    rows = sharpest_row(part, pixels) if part.high > 1 else (0, 0, 0)
-    columns = sharpest_row(*turned(part, pixels)) if part.wide > 1 else (0, 0, 0)
-    if max(rows[0], columns[0]) < 0.25:
-        rows, columns = (part.high > part.wide, 0, part.high // 2), (part.wide >= part.high, 0, part.wide // 2)
-    if rows[0] >= columns[0]:
-        return cut_out(part, 0, 0, part.wide, rows[2]), cut_out(part, 0, rows[2], part.wide, part.high - rows[2])
-    return cut_out(part, 0, 0, columns[2], part.high), cut_out(part, columns[2], 0, part.wide - columns[2], part.high)
+    (share, row), (other_share, column) = sharpest_row(part, pixels), sharpest_row(*turned(part, pixels))
+    at_row = share >= other_share
+    if max(share, other_share) < FAINT:
+        at_row, row, column = part.high > part.wide, part.high // 2, part.wide // 2
+    if at_row:
+        return cut_out(part, 0, 0, part.wide, row), cut_out(part, 0, row, part.wide, part.high - row)
+    return cut_out(part, 0, 0, column, part.high), cut_out(part, column, 0, part.wide - column, part.high)
 
 
 def paint_alike(part, pixels):
