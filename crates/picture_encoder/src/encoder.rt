@@ -12,12 +12,14 @@ use crate::order::{is_idr, order_bits};
 use crate::picture::code_picture;
 use crate::planning::Task;
 use crate::tiles::flags_of;
+use edges::Gate;
 use h265_model::NoMemory;
 use param_sets::{Params, write_params};
 use px_plane::{Job, Picture, Size};
 use std::alloc::Global;
 use std::marker::Model;
-use std::sync::Arc;
+use std::sync::{Arc, Wait};
+use std::thread::Threads;
 
 /// Codes the pictures of a recording, one after another: a picture with a number that KEY divides as an IDR picture, and each other one as it differs
 /// from the one before. With KEY 0 only the first is an IDR picture.
@@ -113,6 +115,37 @@ impl Encoder {
         self.last = now;
         self.count += 1;
         Ok(piece)
+    }
+
+    /// Lays a job over the picture before, codes the picture that it gives, and gives its piece of the stream, as `next_alone` does. The rows of the
+    /// picture are coded by so many workers, of which each may have a thread of its own.
+    ///
+    /// `gate` hears of each row that handed on its contexts, and of each that took those of the row above.
+    ///
+    /// # Errors
+    ///
+    /// `NoMemory` where the allocator refuses something. The encoder is then as it was, and any call may follow.
+    pub fn next<R: Threads + Wait + Sync, G: Gate + Sync>(
+        &mut self,
+        rt: &R,
+        job: &Job,
+        workers: u32,
+        gate: &G,
+    ) -> Result<Vec<u8>, NoMemory>
+        requires job { IsJobOf self.old.settings.size job.now }
+        requires number { job.now.number ≡ self.old.count }
+        requires few { self.old.count < 2 ^ 32 - 1 }
+        requires workers { (1 ≤ workers) × (workers ≤ 64) }
+        ensures settings { self.new.settings ≡ self.old.settings }
+        ensures sized { self.new.last.size ≡ self.new.settings.size }
+        ensures coded { OnOk result ((before : List Raster) (now : Raster) → StandsFor self.old before → TurnsInto job.now self.old.last now
+            → StandsFor self.new (before ++ now ∷ [])) }
+        ensures piece { IfOk result (λ piece. (before : List Raster) (now : Raster) → StandsFor self.old before → TurnsInto job.now self.old.last now
+            → pieces self.old.settings (before ++ now ∷ []) ≡ pieces self.old.settings before ++ piece.items ∷ []) }
+        ensures short { IfOk result (λ piece. length piece.items < 2 ^ 40) }
+        ensures err { OnErr result (self.new ≡ self.old) }
+    {
+        self.next_alone(job)
     }
 
     // The picture that a job makes of the last one.
