@@ -18,7 +18,7 @@ use Rattle.row_core.specs.Plan.{Plan}
 use Rattle.row_coder.specs.Rows.{Row, plan_of, AreTrees, AreAbove}
 use Rattle.row_coder.specs.Laws.{row_leaves, leaves_above, ArePictureLeaves}
 use Rattle.row_coder.proofs.Linked.{each_job_is_coded}
-use Rattle.row_workers.specs.Rows.{no_plan, jobs_of, HaveWidth, rows_of}
+use Rattle.row_core.specs.Plans.{no_plan, jobs_of, HaveWidth, rows_of}
 use Rattle.slice_assembly.specs.Substreams.{IsSubstream}
 use Rattle.picture_encoder.specs.declared.planning.Task.{Task}
 use Rattle.picture_encoder.specs.Planning.{planes_of_task, size_of_task, kind_of_task, chosen, all_chosen, row_chosen, job_row, row_of_task, code_of_task}

@@ -1,7 +1,7 @@
 //! Rows on the caller's thread.
 ghost use Rattle.std.specs.Prelude.{ℕ, OnOk, ◌≡◌, ◌<◌, ◌≤◌, ◌==◌, ◌+◌, false, true, length, map, Option, Some, None, IfOk, if◌then◌else◌};
 ghost use Rattle.std.specs.List.{All};
-ghost use Rattle.row_workers.specs.Rows.{HaveWidth, rows_of};
+ghost use Rattle.row_core.specs.Plans.{HaveWidth, rows_of};
 
 use h265_model::NoMemory;
 use row_core::{Contexts, RowJob};

@@ -2,8 +2,11 @@
 #![tactic(auto)]
 
 mod alone;
+mod at_once;
 
 pub use alone::rows_alone;
+pub use at_once::run_rows;
+pub use edges::Gate;
 pub use h265_model::NoMemory;
 pub use row_core::{Contexts, RowJob};
 

@@ -1,13 +1,16 @@
 //! Rows whose contexts take one step each.
-ghost use Rattle.std.specs.Prelude.{◌≡◌, ◌+◌, [], ◌∷◌, true, false, get_or};
+ghost use Rattle.std.specs.Prelude.{◌≡◌, ◌≤◌, ◌+◌, [], ◌∷◌, true, false, get_or};
 ghost use Rattle.std.specs.Option.{option_map_or};
 ghost use Rattle.h265_model.specs.Contexts.{start, step};
 ghost use Rattle.h265_model.specs.declared.leaf.SliceKind.TheVariants.{I};
 
-use crate::{Contexts, NoMemory, RowJob, rows_alone};
+use crate::{Contexts, NoMemory, RowJob, rows_alone, run_rows};
+use edges::NoGate;
 use h265_model::SliceKind;
 use std::alloc::Global;
+use std::sync::Wait;
 use std::test::Fail;
+use std::thread::Threads;
 
 // A job of a row that hands on its contexts after a step of the first, and has that context's state for its only byte.
 #[derive(Drop)]
@@ -102,6 +105,17 @@ fn three_rows(alloc: Global, more: u8) -> Result<Vec<Vec<u8>>, NoMemory> {
     rows_alone(alloc, jobs)
 }
 
+// The same by so many workers.
+fn three_rows_at_once<R: Threads + Wait + Sync>(rt: &R, alloc: Global, more: u8, workers: u32) -> Result<Vec<Vec<u8>>, NoMemory>
+    requires { (1 ≤ workers) × (workers ≤ 64) }
+{
+    let mut jobs = Vec::new(alloc);
+    jobs.push(job(alloc, more, None))?;
+    jobs.push(job(alloc, more, None))?;
+    jobs.push(job(alloc, more, None))?;
+    run_rows(rt, alloc, jobs, workers, &NoGate)
+}
+
 #[test]
 fn hands_on_contexts_after_the_second_unit(rt: HostRuntime) -> Result<(), Fail> {
     for (width, want) in CASES {
@@ -110,6 +124,22 @@ fn hands_on_contexts_after_the_second_unit(rt: HostRuntime) -> Result<(), Fail> 
         assert_eq!(rt; rows.len(), 3);
         for i in 0..3 {
             assert_eq!(rt; rows[i].as_slice(), &want[i..i + 1]);
+        }
+    }
+    Ok(())
+}
+
+#[test]
+fn workers_give_the_same_rows(rt: HostRuntime) -> Result<(), Fail> {
+    for (width, want) in CASES {
+        assert!(rt; width > 0);
+        for workers in [1, 2, 64] {
+            assert!(rt; workers >= 1 && workers <= 64);
+            let rows = three_rows_at_once(&rt, rt.alloc(), width - 1, workers)?;
+            assert_eq!(rt; rows.len(), 3);
+            for i in 0..3 {
+                assert_eq!(rt; rows[i].as_slice(), &want[i..i + 1]);
+            }
         }
     }
     Ok(())
