@@ -97,8 +97,8 @@ gathered_more v w u coded before after done has give rows same placed r some =
     let both : times r u.rows ≡ times r (v.rows ++ w.rows) = ap (times r) rows in
     let counted = has.each r in
     let so : row_at after r ≡ slice_index_or v.give r [] = dite (ℕ_discrete (coded_times r coded) 0)
-        (λ none. placed.kept r (done r (omega (arith, times-append r v.rows w.rows))))
-        (λ found. placed.placed r (omega arith)) in
+    (λ none. placed.kept r (done r (omega (arith, times-append r v.rows w.rows))))
+    (λ found. placed.placed r (omega arith)) in
     so ∙ ap (λ (l : List (List ℕ)). slice_index_or l r []) (sym same)
 
 width_is : (width : ℕ) (plans : List Plan) → 0 < length plans → HaveWidth width plans → width_of plans ≡ width
@@ -112,8 +112,8 @@ pub all_gathered : (width : ℕ) (plans : List Plan) (v : Knowledge) (rows : Lis
 all_gathered width plans v rows some widths give want all long done =
     let given : v.give ≡ rows_of width plans = give ∙ ap (λ (n : ℕ). give_of (jobs_of n plans) (length plans)) (width_is width plans some widths) in
     ext_get_or [] (map (λ (row : Vec ℕ). row.items) rows) v.give
-        (length-map rows (λ (row : Vec ℕ). row.items) ∙ (long ∙ sym (ap length give ∙ length-give (jobs_of (width_of plans) plans) (length plans))))
-        (λ r less. done r (let one = all.once r (omega (arith, length-map rows (λ (row : Vec ℕ). row.items))) in omega arith))
+    (length-map rows (λ (row : Vec ℕ). row.items) ∙ (long ∙ sym (ap length give ∙ length-give (jobs_of (width_of plans) plans) (length plans))))
+    (λ r less. done r (let one = all.once r (omega (arith, length-map rows (λ (row : Vec ℕ). row.items))) in omega arith))
     ∙ given
 
 module _ {J : Type 0} where

@@ -233,10 +233,15 @@ fn work_all<R: Threads + Wait + Sync, J: RowJob, G: Gate + Sync>(
 {
     let threads = workers.len();
     if threads > 0 {
-        thread::for_each_mut(rt, workers, threads, &|_, worker: &mut Worker<J>|
-            requires { IsReady board.now worker.old }
-            ensures { HasWorked board.entry.now worker.old worker.new }
-        { work(rt, board, worker, gate) });
+        thread::for_each_mut(
+            rt,
+            workers,
+            threads,
+            &|_, worker: &mut Worker<J>|
+                requires { IsReady board.now worker.old }
+                ensures { HasWorked board.entry.now worker.old worker.new }
+            { work(rt, board, worker, gate) },
+        );
     }
 }
 

@@ -106,7 +106,12 @@ fn three_rows(alloc: Global, more: u8) -> Result<Vec<Vec<u8>>, NoMemory> {
 }
 
 // The same by so many workers.
-fn three_rows_at_once<R: Threads + Wait + Sync>(rt: &R, alloc: Global, more: u8, workers: u32) -> Result<Vec<Vec<u8>>, NoMemory>
+fn three_rows_at_once<R: Threads + Wait + Sync>(
+    rt: &R,
+    alloc: Global,
+    more: u8,
+    workers: u32,
+) -> Result<Vec<Vec<u8>>, NoMemory>
     requires { (1 ≤ workers) × (workers ≤ 64) }
 {
     let mut jobs = Vec::new(alloc);

@@ -32,10 +32,10 @@ returns-clause-settled g c = λ wide. elim c.if-width-ge2.branch [
   | then-width-ge2 w ↦ is_settled Published c.begin_row.new.seat.knows c.if-width-ge2.seat.knows c.args.row.now (ap (λ (s : Standing). s.knows) w.seat-is ∙ w.publish.ensures.shown)
       not_published c.in_default.ensures.unsettled
   | else-width-ge2 w ↦ absurd (
-    let narrow = w.if-width-ge2 in
-    let is = c.width.ensures.value in
-    let kept = ap (λ (p : Plan). p.width) c.in_default.ensures.plan in
-    let same = c.requires.fits.same_width in
-    omega arith
-  )
+      let narrow = w.if-width-ge2 in
+      let is = c.width.ensures.value in
+      let kept = ap (λ (p : Plan). p.width) c.in_default.ensures.plan in
+      let same = c.requires.fits.same_width in
+      omega arith
+      )
 ]
