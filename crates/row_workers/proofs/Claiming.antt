@@ -1,10 +1,10 @@
 -- What calls on a claimed row leave of a seat.
-use Rattle.std.proofs.Common.{◌≡◌, ◌≢◌, refl, ◌∙◌, ap, ℕ, ◌<◌, Some, true}
+use Rattle.std.proofs.Common.{◌≡◌, ◌≢◌, refl, ◌∙◌, ap, ℕ, Some}
 use Rattle.row_board.specs.declared.knowledge.Stage.{Stage}
 use Rattle.row_board.specs.declared.knowledge.Stage.TheVariants.{Open}
 use Rattle.row_board.specs.declared.knowledge.Knowledge.{Knowledge}
 use Rattle.row_board.specs.Rows.{times, claim_of, change, at_stage, in_sync, opened}
-use Rattle.row_board.specs.Standing.{IsSame, HasOpen, IsSynced}
+use Rattle.row_board.specs.Standing.{IsSame, HasOpen, IsSynced, has_claimed}
 use Rattle.row_board.proofs.Claims.{times-change, claim-change-same}
 use Rattle.row_workers.specs.AtOnce.{KeepsRows, IsSettled}
 
@@ -18,6 +18,16 @@ module _ (v w : Knowledge) (r : ℕ) (rows : w.rows ≡ change r in_sync v.rows)
 
   pub taken_synced : claim_of r v.rows ≡ Some (opened r) → IsSynced w r
   taken_synced mine = λ below. (in_sync (opened r), ap (claim_of r) rows ∙ claim-change-same in_sync (λ _. refl) r (opened r) v.rows mine, refl)
+
+-- a row was claimed, and then served
+pub claimed_same : (u v w : Knowledge) (r : ℕ) → v ≡ has_claimed u r → IsSame v w → IsSame u w
+claimed_same u v w r claims same = record {
+  weight = same.weight ∙ ap (λ (k : Knowledge). k.weight) claims;
+  width = same.width ∙ ap (λ (k : Knowledge). k.width) claims;
+  want = same.want ∙ ap (λ (k : Knowledge). k.want) claims;
+  give = same.give ∙ ap (λ (k : Knowledge). k.give) claims;
+  met_none = same.met_none ∙ ap (λ (k : Knowledge). k.met_none) claims;
+}
 
 pub still_open : (v w : Knowledge) (r : ℕ) → claim_of r v.rows ≡ Some (opened r) → w.rows ≡ v.rows → HasOpen w r
 still_open v w r mine rows = (opened r, ap (claim_of r) rows ∙ mine, refl)

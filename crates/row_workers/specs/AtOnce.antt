@@ -1,5 +1,5 @@
 -- What workers at a board know of its rows, and what they coded.
-use Rattle.std.specs.Prelude.{◌≡◌, ◌≢◌, ℕ, ◌+◌, ◌<◌, ◌==◌, List, [], ◌∷◌, ◌++◌, length, map, slice_index_or, Bool, true, false, if◌then◌else◌, Some}
+use Rattle.std.specs.Prelude.{◌≡◌, ◌≢◌, ℕ, ◌+◌, ◌<◌, ◌==◌, List, [], ◌∷◌, ◌++◌, length, map, slice_index_or, true, false, if◌then◌else◌, Some}
 use Rattle.std.specs.List.{All}
 use Rattle.std.specs.Global.{Vec}
 use Rattle.atomic_table.specs.Seated.{TableId}
@@ -7,7 +7,7 @@ use Rattle.row_board.specs.declared.knowledge.Stage.TheVariants.{Open}
 use Rattle.row_board.specs.declared.knowledge.Claimed.{Claimed}
 use Rattle.row_board.specs.declared.knowledge.Knowledge.{Knowledge}
 use Rattle.row_board.specs.Rows.{times, claim_of, newcomer}
-use Rattle.row_board.specs.Standing.{Standing, IsSame}
+use Rattle.row_board.specs.Standing.{IsSame}
 use Rattle.row_workers.specs.declared.at_once.CodedRow.{CodedRow}
 use Rattle.row_workers.specs.declared.at_once.Worker.{Worker}
 

@@ -7,6 +7,7 @@ ghost use Rattle.row_board.specs.Standing.{HasOpen, HasUnsynced, IsSynced, IsSam
 ghost use Rattle.row_core.specs.Plans.{HaveWidth, rows_of};
 ghost use Rattle.row_workers.specs.AtOnce.{KeepsRows, IsSettled, IsMoreBy, IsRowOf, HavePlaced, AreGathered, IsNewcomer, IsDone, IsReady, HasWorked, HaveWorked};
 
+use crate::SHOWN;
 use crossbeam_utils::Backoff;
 use edges::Gate;
 use h265_model::NoMemory;
@@ -78,7 +79,7 @@ fn take_above<J: RowJob, G: Gate>(
     ensures synced { OnOk result (2 ≤ width → IsSynced seat.new.knows row.now) }
     ensures inherits { IfOk result (λ contexts. contexts ≡ row_inherits width seat.old.knows.want row.now) }
 {
-    if row.number() == 0 || width < 2 {
+    if row.number() == 0 || width < SHOWN {
         return Ok(None);
     }
     let contexts = wait_for_above(rt, board, seat, row)?;
@@ -125,7 +126,7 @@ fn begin_row<J: RowJob, G: Gate>(
     let width = job.width();
     let inherited = take_above(rt, board, seat, row, width, gate)?;
     job.begin(inherited);
-    code_more(job, width.min(2))?;
+    code_more(job, width.min(SHOWN))?;
     Ok(())
 }
 
@@ -136,7 +137,7 @@ fn finish_row<J: RowJob>(job: J) -> Result<Vec<u8>, NoMemory>
     ensures { IfOk result (λ bytes. bytes.items ≡ (J.plan job).bytes (J.inherits job)) }
 {
     let mut job = job;
-    let left = job.width().saturating_sub(2);
+    let left = job.width().saturating_sub(SHOWN);
     code_more(&mut job, left)?;
     job.finish()
 }
@@ -163,7 +164,7 @@ fn code_row<J: RowJob, G: Gate>(
         board.lose(seat, row);
         return Err(error);
     }
-    if job.width() >= 2 {
+    if job.width() >= SHOWN {
         board.publish(seat, row, job.contexts());
         gate.row_published(row.number());
     }
@@ -177,7 +178,8 @@ impl<J> Worker<J> {
         ensures failed { self.new.failed ≡ false → self.old.failed ≡ false }
         ensures kept { self.new.failed ≡ false → self.new.rows.items ≡ self.old.rows.items ++ record { number = number; bytes = bytes } ∷ [] }
     {
-        if self.rows.push(CodedRow { number, bytes }).is_err() {
+        let row = CodedRow { number, bytes };
+        if self.rows.push(row).is_err() {
             self.failed = true;
         }
     }
@@ -370,6 +372,7 @@ pub fn run_rows<R: Threads + Wait + Sync, J: RowJob, G: Gate + Sync>(
     ensures rows { IfOk result (λ rows. (width : ℕ) → HaveWidth width (map J.plan jobs.items) → map (λ row. row.items) rows.items ≡ rows_of width (map J.plan jobs.items)) }
 {
     let rows = empty_rows(alloc, jobs.len())?;
+    let workers = workers.min(jobs.len() as u32);
     let (board, seat) = Board::new(alloc, jobs)?;
     let (seat, workers) = seat_workers(alloc, &board, seat, workers)?;
     let workers = after_work(rt, &board, workers, gate);

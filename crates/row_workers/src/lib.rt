@@ -10,5 +10,8 @@ pub use edges::Gate;
 pub use h265_model::NoMemory;
 pub use row_core::{Contexts, RowJob};
 
+// After how many of its coding tree units a row hands on its contexts (9.3.1).
+const SHOWN: u32 = 2;
+
 #[cfg(test)]
 mod tests;
