@@ -1,9 +1,6 @@
-use Rattle.std.proofs.Common.{◌∙◌, ap, subst, arith, List}
-use Rattle.h265_model.specs.Plain.{ctus}
+use Rattle.std.proofs.Common.{subst, arith}
 use Rattle.h265_laws.proofs.PictureLaw.{IsFit, size_fits}
 use Rattle.px_plane.specs.Planes.{Planes}
-use Rattle.row_core.specs.Plans.{rows_of}
-use Rattle.row_coder.specs.Rows.{Row, plan_of}
 use Rattle.picture_encoder.specs.Planning.{size_of_task}
 use Rattle.picture_encoder.proofs.RowJobs.{jobs_long, jobs_fresh, jobs_width, jobs_give}
 use Rattle.picture_encoder.proofs.rows.picture_jobs.Goals as goal
