@@ -2,13 +2,18 @@
 import ctypes
 import os
 import platform
+import signal
 import struct
 import subprocess
 
-TRACE_ME, GO_ON, STEP, GET_REGISTERS, SET_REGISTERS = 0, 7, 9, 12, 13
+TRACE_ME, GO_ON, STEP, GET_REGISTERS, SET_REGISTERS, SET_OPTIONS = 0, 7, 9, 12, 13, 0x4200
+# Threads are traced too, and the program ends with its tracer.
+OPTIONS = 0x8 | 0x100000
+ANY_THREAD = 0x40000000
 # Places of registers in what the kernel hands out.
 RESULT, FIRST_ARGUMENT, NEXT_INSTRUCTION, STACK = 10, 14, 16, 19
 BREAKPOINT = b"\xcc"
+LONGEST_INSTRUCTION = 15
 ENTRY = 9
 
 LIBC = ctypes.CDLL(None, use_errno=True)
@@ -25,28 +30,31 @@ def base_of_libc(pid):
     return None
 
 
-def ask(request, pid, value=None):
+def ask(request, thread, value=None):
     """One request of ptrace."""
-    if LIBC.ptrace(request, pid, None, value) < 0:
+    if LIBC.ptrace(request, thread, None, value) < 0:
         raise OSError(ctypes.get_errno(), "ptrace")
 
 
 class Traced:
-    """A program that runs from one call of the named functions to the next."""
+    """A program that runs from one call of the named functions to the next, on any of its threads."""
 
     def __init__(self, command, names, **streams):
         self.process = subprocess.Popen(command, preexec_fn=lambda: ask(TRACE_ME, 0), **streams)
-        self.pid = self.process.pid
-        os.waitpid(self.pid, 0)
-        self.memory = open(f"/proc/{self.pid}/mem", "r+b", buffering=0)
+        self.pid = self.thread = self.process.pid
+        self.threads = {self.pid}
         self.saved = {}
         self.names = {}
+        self.refused = False
+        os.waitpid(self.pid, 0)
+        ask(SET_OPTIONS, self.pid, OPTIONS)
+        self.memory = open(f"/proc/{self.pid}/mem", "r+b", buffering=0)
         # At the program's entry its libraries stand in place.
-        self.stop_at(self.entry())
+        self.entry = self.find_entry()
+        self.stop_at(self.entry)
         self.next_stop()
-        entry = self.registers()[NEXT_INSTRUCTION] - 1
-        self.put(entry, self.saved.pop(entry))
-        self.move_to(entry)
+        self.put(self.entry, self.saved.pop(self.entry)[:1])
+        self.move_to(self.entry)
         mine, theirs = base_of_libc("self"), base_of_libc(self.pid)
         if mine is None or theirs is None or mine[1] != theirs[1]:
             self.kill()
@@ -56,7 +64,7 @@ class Traced:
             self.names[address] = name
             self.stop_at(address)
 
-    def entry(self):
+    def find_entry(self):
         """Where the program begins."""
         with open(f"/proc/{self.pid}/auxv", "rb") as auxiliary:
             for kind, value in struct.iter_unpack("QQ", auxiliary.read()):
@@ -70,31 +78,40 @@ class Traced:
 
     def stop_at(self, address):
         self.memory.seek(address)
-        self.saved[address] = self.memory.read(1)
+        self.saved[address] = self.memory.read(LONGEST_INSTRUCTION)
         self.put(address, BREAKPOINT)
 
     def registers(self):
         found = (ctypes.c_ulong * 27)()
-        ask(GET_REGISTERS, self.pid, ctypes.byref(found))
+        ask(GET_REGISTERS, self.thread, ctypes.byref(found))
         return found
 
     def move_to(self, address):
         found = self.registers()
         found[NEXT_INSTRUCTION] = address
-        ask(SET_REGISTERS, self.pid, ctypes.byref(found))
+        ask(SET_REGISTERS, self.thread, ctypes.byref(found))
 
     def next_stop(self):
-        """Runs on, and says whether the program stands at a breakpoint. If not, it has ended."""
-        ask(GO_ON, self.pid)
-        _, status = os.waitpid(self.pid, 0)
-        while os.WIFSTOPPED(status) and os.WSTOPSIG(status) != 5:
-            ask(GO_ON, self.pid, os.WSTOPSIG(status))
-            _, status = os.waitpid(self.pid, 0)
-        if os.WIFSTOPPED(status):
-            return True
-        self.process.returncode = os.waitstatus_to_exitcode(status)
-        self.memory.close()
-        return False
+        """Lets the thread run on, and says whether one stands at a breakpoint. If not, the program has ended."""
+        passed_on = 0
+        while True:
+            ask(GO_ON, self.thread, passed_on)
+            self.thread, status = os.waitpid(-1, ANY_THREAD)
+            while not os.WIFSTOPPED(status):
+                if self.thread == self.pid:
+                    self.process.returncode = os.waitstatus_to_exitcode(status)
+                    self.memory.close()
+                    return False
+                self.threads.discard(self.thread)
+                self.thread, status = os.waitpid(-1, ANY_THREAD)
+            passed_on = os.WSTOPSIG(status)
+            if passed_on == signal.SIGTRAP:
+                if status >> 16 == 0:
+                    return True
+                passed_on = 0
+            elif self.thread not in self.threads:
+                self.threads.add(self.thread)
+                passed_on = 0
 
     def calls(self):
         """The names of the calls, one by one. Each is made when the next one is asked for, if it wasn't refused."""
@@ -102,13 +119,21 @@ class Traced:
             address = self.registers()[NEXT_INSTRUCTION] - 1
             self.refused = False
             yield self.names[address]
-            if self.refused:
-                continue
-            self.move_to(address)
-            self.put(address, self.saved[address])
-            ask(STEP, self.pid)
-            os.waitpid(self.pid, 0)
+            if not self.refused:
+                self.step(address)
+
+    def step(self, address):
+        """Runs the instruction at a breakpoint: in its place, or, beside other threads, at the program's entry."""
+        first = self.saved[address]
+        at = address if len(self.threads) == 1 else self.entry
+        self.put(at, first)
+        self.move_to(at)
+        ask(STEP, self.thread)
+        os.waitpid(self.thread, ANY_THREAD)
+        if at == address:
             self.put(address, BREAKPOINT)
+        else:
+            self.move_to(address + self.registers()[NEXT_INSTRUCTION] - at)
 
     def refuse(self):
         """The call gives 0, and isn't made."""
@@ -117,7 +142,7 @@ class Traced:
         found[NEXT_INSTRUCTION] = int.from_bytes(self.memory.read(8), "little")
         found[STACK] += 8
         found[RESULT] = 0
-        ask(SET_REGISTERS, self.pid, ctypes.byref(found))
+        ask(SET_REGISTERS, self.thread, ctypes.byref(found))
         self.refused = True
 
     def first_argument(self):
@@ -133,9 +158,8 @@ def can_trace():
     if platform.system() != "Linux" or platform.machine() != "x86_64":
         return False
     try:
-        traced = Traced(["/bin/true"], ["malloc"])
+        for _ in Traced(["/bin/true"], ["malloc"]).calls():
+            pass
     except OSError:
         return False
-    for _ in traced.calls():
-        pass
     return True
