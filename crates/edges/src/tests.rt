@@ -3,8 +3,8 @@ ghost use Rattle.std.specs.Prelude.{◌≡◌, ◌++◌, OnOk};
 ghost use Rattle.h265_model.specs.Files.{WhereTold, file_at};
 
 use crate::{
-    CalmShelf, DiskShelf, FileSink, Gate, MemorySink, NoGate, ReadError, Shelf, Sink, StreamSink,
-    WriteError,
+    CalmShelf, DiskShelf, FileSink, Gate, MemoryShelf, MemorySink, NoGate, ReadError, Shelf, Sink,
+    StreamSink, WriteError,
 };
 use std::fmt::Display;
 use std::io;
@@ -54,6 +54,110 @@ fn files_in_memory(rt: HostRuntime) -> Result<(), Fail> {
     assert!(rt; matches!(read(&mut shelf, &rt, "a", 5), Err(ReadError::TooLarge)));
     shelf.create("a")?;
     assert_eq!(rt; shelf.file("a"), Some(b"".as_slice()));
+    Ok(())
+}
+
+#[test]
+fn files_in_memory_without_faults(rt: HostRuntime) -> Result<(), Fail> {
+    let mut shelf = MemoryShelf::new(rt.alloc(), &[], &[])?;
+    assert_eq!(rt; shelf.file("a"), None);
+    assert!(rt; matches!(read(&mut shelf, &rt, "a", 9), Err(ReadError::Failed)));
+    shelf.put("a", b"one")?;
+    shelf.append("a", b"two")?;
+    shelf.append("b", b"three")?;
+    assert_eq!(rt; shelf.file("a"), Some(b"onetwo".as_slice()));
+    assert_eq!(rt; shelf.file("b"), Some(b"three".as_slice()));
+    assert_eq!(rt;
+        read(&mut shelf, &rt, "a", 6)?.as_slice(),
+        b"onetwo".as_slice()
+    );
+    assert!(rt; matches!(read(&mut shelf, &rt, "a", 5), Err(ReadError::TooLarge)));
+    shelf.create("a")?;
+    assert_eq!(rt; shelf.file("a"), Some(b"".as_slice()));
+    Ok(())
+}
+
+// Calls over one file, some of which fail: which of them end well, and what the file has at last.
+struct Calls {
+    failing_reads: &'static [u32],
+    failing_writes: &'static [(u32, u32)],
+    // A read, a create, two appends, and a read.
+    are_good: [bool; 5],
+    left: &'static [u8],
+}
+
+const CALLS: [Calls; 9] = [
+    Calls {
+        failing_reads: &[],
+        failing_writes: &[],
+        are_good: [true, true, true, true, true],
+        left: b"onetwo",
+    },
+    Calls {
+        failing_reads: &[0],
+        failing_writes: &[(3, 0)],
+        are_good: [false, true, true, true, true],
+        left: b"onetwo",
+    },
+    Calls {
+        failing_reads: &[2, 1],
+        failing_writes: &[],
+        are_good: [true, true, true, true, false],
+        left: b"onetwo",
+    },
+    Calls {
+        failing_reads: &[],
+        failing_writes: &[(0, 9)],
+        are_good: [true, false, true, true, true],
+        left: b"oldonetwo",
+    },
+    Calls {
+        failing_reads: &[],
+        failing_writes: &[(1, 0)],
+        are_good: [true, true, false, true, true],
+        left: b"two",
+    },
+    Calls {
+        failing_reads: &[],
+        failing_writes: &[(1, 2), (1, 3)],
+        are_good: [true, true, false, true, true],
+        left: b"ontwo",
+    },
+    Calls {
+        failing_reads: &[],
+        failing_writes: &[(1, 3)],
+        are_good: [true, true, false, true, true],
+        left: b"onetwo",
+    },
+    Calls {
+        failing_reads: &[],
+        failing_writes: &[(2, 9)],
+        are_good: [true, true, true, false, true],
+        left: b"onetwo",
+    },
+    Calls {
+        failing_reads: &[0, 1],
+        failing_writes: &[(0, 0), (2, 1)],
+        are_good: [false, false, true, false, false],
+        left: b"oldonet",
+    },
+];
+
+#[test]
+fn files_in_memory_with_faults(rt: HostRuntime) -> Result<(), Fail> {
+    for calls in &CALLS {
+        let mut shelf = MemoryShelf::new(rt.alloc(), calls.failing_reads, calls.failing_writes)?;
+        shelf.put("a", b"old")?;
+        let are_good = [
+            read(&mut shelf, &rt, "a", 9).is_ok(),
+            shelf.create("a").is_ok(),
+            shelf.append("a", b"one").is_ok(),
+            shelf.append("a", b"two").is_ok(),
+            read(&mut shelf, &rt, "a", 9).is_ok(),
+        ];
+        assert_eq!(rt; are_good, calls.are_good);
+        assert_eq!(rt; shelf.file("a"), Some(calls.left));
+    }
     Ok(())
 }
 

@@ -1,5 +1,6 @@
 //! Whole recordings over files in memory, and what is refused.
 mod cases;
+mod faults;
 
 use super::*;
 use cases::{CASES, Case};

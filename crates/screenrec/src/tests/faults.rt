@@ -1,0 +1,156 @@
+//! Recordings of two cuts over files in memory, with calls that fail, and scripts that are cut off.
+use super::digest;
+use crate::{Cause, Outcome, Status, run_serial};
+use edges::{MemoryShelf, MemorySink};
+use h265_model::NoMemory;
+use std::alloc::Global;
+use std::test::Fail;
+
+// What a recording leaves.
+#[derive(Drop)]
+struct Left {
+    outcome: Outcome,
+    shelf: MemoryShelf,
+    report: MemorySink,
+}
+
+// Records the two cuts of `f`, or another file, to `o`, which holds `old`. The lists name the calls that fail.
+fn record(
+    alloc: Global,
+    file: &str,
+    reads: &[u32],
+    writes: &[(u32, u32)],
+    reports: &[(u32, u32)],
+) -> Result<Left, NoMemory> {
+    let mut shelf = MemoryShelf::new(alloc, reads, writes)?;
+    shelf.put("f", b"cut\ncut\n")?;
+    shelf.put("o", b"old")?;
+    let mut report = MemorySink::new(alloc, reports)?;
+    let words = ["serial", "32x32", "0", "0", "o", file];
+    let outcome = run_serial(alloc, &words, &mut shelf, &mut report);
+    Ok(Left {
+        outcome,
+        shelf,
+        report,
+    })
+}
+
+// OUT is as it was, and nothing was recorded.
+fn is_untouched(rt: &impl std::process::Abort, left: &Left) {
+    assert_eq!(rt; left.shelf.file("o"), Some(b"old".as_slice()));
+    assert!(rt; left.outcome.order.as_slice().is_empty());
+    assert_eq!(rt; left.outcome.written, 0);
+    assert!(rt; left.report.text().is_empty());
+}
+
+#[test]
+fn appends_that_fail(rt: HostRuntime) -> Result<(), Fail> {
+    let alloc = rt.alloc();
+    let whole = record(alloc, "f", &[], &[], &[])?;
+    let stream = whole.shelf.file("o").ok_or("no stream")?;
+    assert_eq!(rt; whole.outcome.status, Status::Ok);
+    assert_eq!(rt; digest(stream), 0xb5524a7f10d24362);
+    // The number of the write, how many bytes it takes, how many OUT has then, and how many are counted.
+    let rows = [
+        (1, 0, 0, 0),
+        (1, 3, 3, 0),
+        (2, 0, 74, 74),
+        (2, 3, 77, 74),
+        (3, 0, 4693, 4693),
+        (3, 3, 4696, 4693),
+        (3, 5, 4698, 4693),
+    ];
+    for (number, taken, stored, written) in rows {
+        let left = record(alloc, "f", &[], &[(number, taken)], &[])?;
+        assert_eq!(rt; left.outcome.status, Status::SinkFault);
+        assert_eq!(rt; left.outcome.written, written);
+        assert_eq!(rt; left.outcome.order.as_slice().len(), 2);
+        assert_eq!(rt; left.shelf.file("o"), stream.get(..stored));
+        assert!(rt; left.report.text().is_empty());
+    }
+    Ok(())
+}
+
+#[test]
+fn a_create_that_fails(rt: HostRuntime) -> Result<(), Fail> {
+    for taken in [0, 3] {
+        let left = record(rt.alloc(), "f", &[], &[(0, taken)], &[])?;
+        assert_eq!(rt; left.outcome.status, Status::SinkFault);
+        is_untouched(&rt, &left);
+    }
+    Ok(())
+}
+
+#[test]
+fn a_file_that_is_not_read(rt: HostRuntime) -> Result<(), Fail> {
+    let rows: [(&str, &[u32]); 2] = [("f", &[0]), ("missing", &[])];
+    for (file, reads) in rows {
+        let left = record(rt.alloc(), file, reads, &[], &[])?;
+        assert_eq!(rt; left.outcome.status, Status::InputFault { file: 0 });
+        is_untouched(&rt, &left);
+    }
+    Ok(())
+}
+
+#[test]
+fn reports_that_fail(rt: HostRuntime) -> Result<(), Fail> {
+    for (taken, text) in [(0, ""), (3, "pic")] {
+        let left = record(rt.alloc(), "f", &[], &[], &[(0, taken)])?;
+        let stream = left.shelf.file("o").ok_or("no stream")?;
+        assert_eq!(rt; left.outcome.status, Status::ReportFault);
+        assert_eq!(rt; left.outcome.written, 4704);
+        assert_eq!(rt; digest(stream), 0xb5524a7f10d24362);
+        assert_eq!(rt; left.report.text(), text.as_bytes());
+    }
+    Ok(())
+}
+
+// The status of a recording of this script.
+fn status_of(alloc: Global, script: &[u8]) -> Result<Status, NoMemory> {
+    let mut shelf = MemoryShelf::new(alloc, &[], &[])?;
+    shelf.put("f", script)?;
+    let mut report = MemorySink::new(alloc, &[])?;
+    let words = ["serial", "32x32", "0", "1", "o", "f"];
+    Ok(run_serial(alloc, &words, &mut shelf, &mut report).status)
+}
+
+// What is answered for the front of a script whose lines are good: its last line has no line feed, or there is none.
+fn status_of_front(front: &[u8]) -> Status {
+    let mut line = 1;
+    let mut is_whole = true;
+    for byte in front {
+        is_whole = *byte == b'\n';
+        if is_whole {
+            line = u32::wrapping_add(line, 1);
+        }
+    }
+    if is_whole {
+        return Status::Ok;
+    }
+    Status::BadPaint {
+        file: 0,
+        line,
+        cause: Cause::NoLineFeed,
+    }
+}
+
+#[test]
+fn scripts_that_are_cut_off(rt: HostRuntime) -> Result<(), Fail> {
+    let rows = [
+        "fill 1 2 3 4 a0b0c0\nblit 0 0 1 2 000000ffffff\ncut\n",
+        "fill 0 0 0 5 ffffff\n",
+        "cut\ncut \n",
+        "fill 00 0 1 1 ffffff\n",
+        "fill 65536 0 1 1 ffffff\n",
+        "fill 0 0 1 1 FFFFFF\n",
+        "blit 0 0 2 1 ff0000\n",
+        "blit 0 0 65 64 0\n",
+    ];
+    for row in rows {
+        for length in 0..row.len() {
+            let front = row.as_bytes().get(..length).unwrap_or(&[]);
+            assert_eq!(rt; status_of(rt.alloc(), front)?, status_of_front(front));
+        }
+    }
+    Ok(())
+}
