@@ -35,7 +35,7 @@ unfolding pieces_after
 count_after settings n before [] = refl
 count_after settings n before (p ∷ ps) = ap suc (count_after settings (n + 1) (Some p) ps)
 
-count_pieces : (settings : Settings) (ps : List Raster) → length (pieces settings ps) ≡ length ps + 1
+pub count_pieces : (settings : Settings) (ps : List Raster) → length (pieces settings ps) ≡ length ps + 1
 unfolding pieces
 count_pieces settings ps = let n = count_after settings 0 None ps in omega (arith, n)
 

@@ -56,8 +56,8 @@ fn play_one<R: Wait, G: Gate>(rt: &R, desk: &Desk, pass: &mut ClientPass, gate: 
     let _ = play_all(rt, desk, pass, gate);
 }
 
-// Plays all clients' scripts, each on a thread of its own where one can be made.
-pub(crate) fn play_clients<R: Threads + Wait + Sync, G: Gate + Sync>(
+// Plays each client's script on a thread of its own, where one can be made.
+fn play_each<R: Threads + Wait + Sync, G: Gate + Sync>(
     rt: &R,
     desk: &Desk,
     clients: &mut [ClientPass],
@@ -73,6 +73,19 @@ pub(crate) fn play_clients<R: Threads + Wait + Sync, G: Gate + Sync>(
             ensures { HasEnded desk.entry.now pass.old pass.new }
         { play_one(rt, desk, pass, gate) });
     }
+}
+
+// Plays all clients' scripts, each on a thread of its own where one can be made.
+pub(crate) fn play_clients<R: Threads + Wait + Sync, G: Gate + Sync>(
+    rt: &R,
+    desk: &Desk,
+    clients: &mut Vec<ClientPass>,
+    gate: &G,
+)
+    requires { All (IsAt desk.now) clients.old.items }
+    ensures { HaveEnded desk.now clients.old.items clients.new.items }
+{
+    play_each(rt, desk, clients.as_mut_slice(), gate);
 }
 
 // Whether a client met want of memory.
