@@ -1,18 +1,14 @@
 //! The recorder: it takes jobs from a desk, and appends the piece of each picture.
-ghost use Rattle.std.specs.Prelude.{◌≡◌, ◌≢◌, ◌≤◌, ◌<◌, ◌-◌, ◌^◌, ◌∷◌, ◌++◌, [], List, length, IfOk, OnOk, OnErr, IfSome, MatchOption};
+ghost use Rattle.std.specs.Prelude.{◌≡◌, ◌≤◌, ◌<◌, ◌-◌, ◌^◌, [], IfSome, MatchOption};
 ghost use Rattle.h265_model.specs.Files.{WhereTold};
 ghost use Rattle.h265_model.specs.Histories.{takes};
-ghost use Rattle.h265_model.specs.Raster.{Raster};
-ghost use Rattle.h265_model.specs.Stream.{pieces};
-ghost use Rattle.px_plane.specs.Tiles.{IsJobOf};
-ghost use Rattle.picture_encoder.specs.Coded.{StandsFor, TurnsInto};
+ghost use Rattle.picture_encoder.specs.Coded.{StandsFor};
 ghost use Rattle.live_desk.specs.Passes.{fresh_recorder};
 ghost use Rattle.recorder.specs.Ends.{Ends, HasEndCause, HasRecorded, HasCoded, SawMark, seen_pictures};
 ghost use Rattle.recorder.specs.Jobs.{IsNextJob, HasNoJob, end_after};
 
 use crossbeam_utils::Backoff;
 use edges::{Gate, Sink, WriteError};
-use h265_model::NoMemory;
 use live_desk::{Desk, Job, RecorderPass, Taken};
 use picture_encoder::Encoder;
 use std::sync::Wait;
@@ -48,29 +44,6 @@ fn wait_for_job(rt: &impl Wait, desk: &Desk, pass: &mut RecorderPass) -> Option<
         }
     }
     unreachable!()
-}
-
-// Codes the picture that a job makes of the one before.
-fn code_job<R: Threads + Wait + Sync, G: Gate + Sync>(
-    _rt: &R,
-    encoder: &mut Encoder,
-    job: &Job,
-    _workers: u32,
-    _gate: &G,
-) -> Result<Vec<u8>, NoMemory>
-    requires job { IsJobOf encoder.old.settings.size job.now }
-    requires number { job.now.number ≡ encoder.old.count }
-    requires few { encoder.old.count < 2 ^ 32 - 1 }
-    requires workers { (1 ≤ _workers) × (_workers ≤ 64) }
-    ensures settings { encoder.new.settings ≡ encoder.old.settings }
-    ensures sized { encoder.new.last.size ≡ encoder.new.settings.size }
-    ensures coded { OnOk result ((before : List Raster) (now : Raster) → StandsFor encoder.old before → TurnsInto job.now encoder.old.last now
-        → StandsFor encoder.new (before ++ now ∷ [])) }
-    ensures piece { IfOk result (λ piece. (before : List Raster) (now : Raster) → StandsFor encoder.old before → TurnsInto job.now encoder.old.last now
-        → pieces encoder.old.settings (before ++ now ∷ []) ≡ pieces encoder.old.settings before ++ piece.items ∷ []) }
-    ensures err { OnErr result (encoder.new ≡ encoder.old) }
-{
-    encoder.next_alone(job)
 }
 
 // How the recorder ends where the sink refused a piece.
@@ -122,7 +95,7 @@ pub fn record_all<R: Threads + Wait + Sync, K: Sink, G: Gate + Sync>(
         let Some(job) = wait_for_job(rt, desk, pass) else {
             return RecordEnd::Ended { written };
         };
-        let Ok(piece) = code_job(rt, encoder, &job, workers, gate) else {
+        let Ok(piece) = encoder.next(rt, &job, workers, gate) else {
             return RecordEnd::NoMemory { written };
         };
         let Some(more) = written.checked_add(piece.len() as u64) else {

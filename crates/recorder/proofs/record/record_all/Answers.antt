@@ -40,12 +40,12 @@ returns-in_default-wait_for_job-clause-ended g c =
     ended_stored c.args.encoder.now.settings c.loop.pass.knows c.wait_for_job.new.pass.knows c.loop.encoder c.loop.written c.args.cuts (g.K.Sink.text c.args.sink.now) (g.K.Sink.text c.loop.sink)
     c.loop.invariant.stored c.in_default-wait_for_job.ensures.none.far (lawful_now c.loop.pass c.wait_for_job.new.pass c.in_default-wait_for_job.ensures.pass)
 
-pub code_job-requires-clause-number : goal.code_job-requires-clause-number
-code_job-requires-clause-number g c κs within =
+pub next-piece-requires-clause-number : goal.next-piece-requires-clause-number
+next-piece-requires-clause-number g c κs within =
     c.in-Some.ensures.job.number ∙ sym (c.loop.invariant.stored.coded.stands.count ∙ count_taken c.loop.pass.knows (lawful_now c.args.pass.now c.loop.pass c.loop.invariant.recorded))
 
-pub returns-in_default-code_job-clause-ended : goal.returns-in_default-code_job-clause-ended
-returns-in_default-code_job-clause-ended g c =
+pub returns-in_default-next-clause-ended : goal.returns-in_default-next-clause-ended
+returns-in_default-next-clause-ended g c =
     missed_stored c.args.encoder.now.settings c.loop.pass.knows c.wait_for_job.new.pass.knows c.loop.encoder c.in-Some.job c.loop.written c.args.cuts (g.K.Sink.text c.args.sink.now) (g.K.Sink.text c.loop.sink)
     c.loop.invariant.stored c.in-Some.ensures.job (lawful_now c.loop.pass c.wait_for_job.new.pass c.in-Some.ensures.pass)
 
@@ -61,7 +61,7 @@ returns-in-Err-write-clause-ended g c =
     subst (Ends settings (seen_pictures w) c.args.cuts (takes w.seen) (g.K.Sink.text c.args.sink.now) (g.K.Sink.text c.write-in-loop.new.self)) (sym c.ended_by-in-Err-write.ensures)
     (refused_stored settings c.loop.pass.knows w c.loop.encoder c.in-Some.job c.deref-in-loop.result.now c.loop.written c.args.cuts (g.K.Sink.text c.args.sink.now) (g.K.Sink.text c.loop.sink) (g.K.Sink.text c.write-in-loop.new.self)
     c.in-Err-write.error c.loop.invariant.stored c.in-Some.ensures.job (lawful_now c.loop.pass c.wait_for_job.new.pass c.in-Some.ensures.pass)
-    (subst (IsPieceOf c.loop.encoder c.in-Some.job) (sym c.deref-in-loop.ensures.value) c.in-Ok-code_job.ensures.piece) c.in-Err-write.ensures.text)
+    (subst (IsPieceOf c.loop.encoder c.in-Some.job) (sym c.deref-in-loop.ensures.value) c.in-Ok-next.ensures.piece) c.in-Err-write.ensures.text)
 
 pub returns-clause-ended : goal.returns-clause-ended
 returns-clause-ended g c =
