@@ -84,13 +84,13 @@ pub fn record_all<R: Threads + Wait + Sync, K: Sink, G: Gate + Sync>(
     ensures beside { WhereTold (K.beside sink.old) (K.beside sink.new) (λ was now. now ≡ was) }
     ensures through { K.through sink.new ≡ K.through sink.old }
 {
-    let Ok(piece) = encoder.first() else {
+    let Ok(sets) = encoder.first() else {
         return RecordEnd::NoMemory { written: 0 };
     };
-    if let Err(error) = sink.write(&piece) {
+    if let Err(error) = sink.write(&sets) {
         return ended_by(error, 0);
     }
-    let mut written = piece.len() as u64;
+    let mut written = sets.len() as u64;
     for _ in 0..cuts {
         let Some(job) = wait_for_job(rt, desk, pass) else {
             return RecordEnd::Ended { written };

@@ -29,7 +29,7 @@ loop-init g c =
       taken = none;
       few = omega arith;
       stored = stored_first settings c.args.pass.now.knows c.args.encoder.now c.deref.result.now c.len-written.result (g.K.Sink.text c.args.sink.now) (g.K.Sink.text c.write.new.self)
-          refl c.requires.size c.requires.sized c.requires.none none (c.in-Ok.ensures.piece ∙ ap (λ (l : List ℕ). l ∷ []) (sym c.deref.ensures.value)) (omega (arith, c.len-written.ensures, c.deref.ensures.len, ap length c.deref.ensures.value, c.in-Ok.piece.ok)) c.in_default-write.ensures.text;
+          refl c.requires.size c.requires.sized c.requires.none none (c.in-Ok.ensures.piece ∙ ap (λ (l : List ℕ). l ∷ []) (sym c.deref.ensures.value)) (omega (arith, c.len-written.ensures, c.deref.ensures.len, ap length c.deref.ensures.value, c.in-Ok.sets.ok)) c.in_default-write.ensures.text;
       faults = c.in_default-write.ensures.cause.kept;
       beside = c.in_default-write.ensures.beside;
       through = c.in_default-write.ensures.through;
