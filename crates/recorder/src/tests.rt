@@ -184,7 +184,7 @@ fn clients_of(order: &[Entry], takes: u32) -> Option<[u32; 4]> {
                 if number != taken || number >= cuts {
                     return None;
                 }
-                taken = number + 1;
+                taken = number.saturating_add(1);
             }
         }
     }

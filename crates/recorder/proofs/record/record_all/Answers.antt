@@ -40,8 +40,8 @@ returns-in_default-wait_for_job-clause-ended g c =
     ended_stored c.args.encoder.now.settings c.loop.pass.knows c.wait_for_job.new.pass.knows c.loop.encoder c.loop.written c.args.cuts (g.K.Sink.text c.args.sink.now) (g.K.Sink.text c.loop.sink)
     c.loop.invariant.stored c.in_default-wait_for_job.ensures.none.far (lawful_now c.loop.pass c.wait_for_job.new.pass c.in_default-wait_for_job.ensures.pass)
 
-pub next-piece-requires-clause-number : goal.next-piece-requires-clause-number
-next-piece-requires-clause-number g c κs within =
+pub next-requires-clause-number : goal.next-requires-clause-number
+next-requires-clause-number g c κs within =
     c.in-Some.ensures.job.number ∙ sym (c.loop.invariant.stored.coded.stands.count ∙ count_taken c.loop.pass.knows (lawful_now c.args.pass.now c.loop.pass c.loop.invariant.recorded))
 
 pub returns-in_default-next-clause-ended : goal.returns-in_default-next-clause-ended
