@@ -41,7 +41,7 @@ count_from p (line ∷ lines) a b = count_from p lines (a + cond (not (p line)) 
     go true = omega arith
     go false = omega arith
 
-count_both : (p : Line → Bool) (lines : List Line) → count_by (λ line. not (p line)) lines + count_by p lines ≡ length lines
+pub count_both : (p : Line → Bool) (lines : List Line) → count_by (λ line. not (p line)) lines + count_by p lines ≡ length lines
 count_both p lines = count_from p lines 0 0 ∙ omega arith
 
 pub report_is : (script : List Line) (written : ℕ) →

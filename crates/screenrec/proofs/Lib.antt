@@ -3,3 +3,4 @@ pub mod StoredLaws
 pub mod AcceptedLaws
 pub mod AloneLaws
 pub mod RunLaws
+pub mod DemoLaws

@@ -1,10 +1,12 @@
 -- What a demo of a number records.
-use Rattle.std.specs.Prelude.{◌≡◌, ℕ, ◌++◌, List, [], length, map, flat_map}
+use Rattle.std.specs.Prelude.{◌≡◌, ℕ, ◌<◌, ◌/◌, ◌%◌, ◌++◌, List, [], length, map, flat_map}
 use Rattle.h265_model.specs.declared.entry.Entry.{Entry}
+use Rattle.h265_model.specs.declared.line.Line.{Line}
 use Rattle.h265_model.specs.declared.entry.Entry.TheVariants as entry
 use Rattle.h265_model.specs.Plain.{below}
 use Rattle.h265_model.specs.Words.{Settings}
 use Rattle.h265_model.specs.Raster.{Raster, pictures}
+use Rattle.h265_model.specs.Histories.{cuts, paints, script_length}
 use Rattle.h265_model.specs.Stream.{stream_of}
 use Rattle.h265_model.specs.Files.{IsPrefix}
 use Rattle.h265_model.specs.Headline.{report_of}
@@ -19,6 +21,22 @@ demo_settings = record { size = record { w = 640; h = 360 }; effort = 1; key = 4
 -- in rounds: line k of each client in turn, for each k
 abbrev pub demo_order : List Entry
 demo_order = flat_map (λ index. map (λ client. entry.Line client index) (below clients)) (below line_count)
+
+-- the entry of a turn: the clients take turns, and after each round comes the next line
+abbrev pub turn_entry : ℕ → Entry
+turn_entry turn = entry.Line (turn % clients) (turn / clients)
+
+-- four scripts of 60 lines
+pub record HasRounds (scripts : List (List Line)) : Type 0 where
+  pub many : length scripts ≡ clients
+  pub long : (client : ℕ) → client < clients → script_length scripts client ≡ line_count
+
+-- the scripts were played in rounds, and these are their counts of lines that cut and that paint, and the length of the stream
+pub record IsPlayedDemo (scripts : List (List Line)) (order : List Entry) (cut painted written : ℕ) : Type 0 where
+  pub rounds : order ≡ demo_order
+  pub cut_so : cut ≡ cuts scripts demo_order
+  pub painted_so : painted ≡ paints scripts demo_order
+  pub counted : written ≡ length (stream_of demo_settings (pictures demo_settings.size scripts demo_order))
 
 -- the pictures that the scripts of the number cut in this order
 abbrev pub demo_pictures : ℕ → List Raster
