@@ -1,9 +1,11 @@
 -- Which scripts are accepted, and by which status a call refuses them.
-use Rattle.std.specs.Prelude.{◌≡◌, ◌≤◌, ℕ, ◌+◌, List, [], ◌∷◌, length, take, count_by, sum_by, Result, Ok, Err, OnOk, IsOk}
+use Rattle.std.specs.Prelude.{◌≡◌, ◌≤◌, ℕ, ◌+◌, List, [], ◌∷◌, length, take, count_by, sum_by, slice_index_or, Result, Ok, Err, OnOk, IsOk}
+use Rattle.std.specs.Borrow.{Bor}
 use Rattle.h265_model.specs.declared.line.Line.{Line}
 use Rattle.h265_model.specs.Script.{is_cut}
 use Rattle.h265_model.specs.Files.{Rose}
 use Rattle.h265_model.specs.Headline.{Refusal, TooLarge, BadPaint, Limit, scripts_of, scripts_after, most_lines, most_cuts}
+use Rattle.command_line.specs.Views.{texts}
 use Rattle.screenrec.specs.declared.outcome.Status.{Status}
 use Rattle.screenrec.specs.declared.outcome.Status.TheVariants as status
 
@@ -15,6 +17,10 @@ RefusesScripts defined status.NoMemory = Unit {0}
 RefusesScripts defined _ = ⊥
 
 -- ---- one file
+
+-- the name of this number
+abbrev pub name_at : List (Bor (List ℕ)) → ℕ → List ℕ
+name_at names file = slice_index_or (texts names) file []
 
 -- what reading a file of this number and of these bytes answers, after so many lines and cuts of the files before it
 abbrev pub Accepts : ℕ → ℕ → ℕ → List ℕ → Result (List Line) Status → Type 0

@@ -1,5 +1,5 @@
 //! Clients' paint files, read and judged.
-ghost use Rattle.std.specs.Prelude.{◌≡◌, ◌≢◌, ◌≤◌, ◌+◌, ℕ, length, count_by, IfOk, IfErr};
+ghost use Rattle.std.specs.Prelude.{◌≡◌, ◌≢◌, ◌≤◌, ◌<◌, ◌+◌, ℕ, length, count_by, IfOk, IfErr};
 ghost use Rattle.std.specs.List.{All};
 ghost use Rattle.h265_model.specs.Headline.{most_lines, most_cuts, contents};
 ghost use Rattle.h265_model.specs.Files.{WhereTold, file_at};
@@ -7,7 +7,7 @@ ghost use Rattle.h265_model.specs.Script.{is_cut};
 ghost use Rattle.h265_model.specs.Words.{most_clients};
 ghost use Rattle.command_line.specs.Views.{texts};
 ghost use Rattle.paint_script.specs.Spellable.{AreSpellable};
-ghost use Rattle.screenrec.specs.Accepted.{Accepts, AcceptsAll, AreFew, IsOfTheFile, IsOfReading, HasInputCause, HasRoomFor};
+ghost use Rattle.screenrec.specs.Accepted.{name_at, Accepts, AcceptsAll, AreFew, IsOfTheFile, IsOfReading, HasInputCause, HasRoomFor};
 ghost use Rattle.screenrec.specs.Recording.{IsOfFile};
 
 use crate::Status;
@@ -25,20 +25,15 @@ const MOST_LINES: u32 = 1_000_000;
 /// The most cuts of all files together.
 const MOST_CUTS: u32 = 65_536;
 
-// How many files were accepted, with their lines and cuts.
+// The lines and cuts of the files that were accepted.
 #[derive(Clone, Copy)]
 struct Totals {
-    files: u32,
     lines: u32,
     cuts: u32,
 }
 
 // No file yet.
-const NONE: Totals = Totals {
-    files: 0,
-    lines: 0,
-    cuts: 0,
-};
+const NONE: Totals = Totals { lines: 0, cuts: 0 };
 
 /// Reads the one file of a recording.
 ///
@@ -54,7 +49,7 @@ pub fn read_paint<F: Shelf>(alloc: Global, name: &str, shelf: &mut F) -> Result<
     ensures files { WhereTold (F.files shelf.old) (F.files shelf.new) (λ before after.
         (after ≡ before) × Accepts 0 0 0 (file_at before name.now) result) }
 {
-    read_next(alloc, name, NONE, shelf)
+    read_named(alloc, name, 0, NONE, shelf)
 }
 
 /// Reads the 1 to 64 files of a recording, in order, up to the first one that is refused.
@@ -79,16 +74,17 @@ pub fn read_paints<F: Shelf>(
     ensures files { WhereTold (F.files shelf.old) (F.files shelf.new) (λ before after.
         (after ≡ before) × AcceptsAll (contents before (texts names.now)) result) }
 {
-    let first = read_next(alloc, names[0], NONE, shelf)?;
+    let first = read_next(alloc, names, 0, NONE, shelf)?;
     let mut so_far = NONE.with(&first);
     let Ok(mut scripts) = Scripts::one(alloc, first) else {
         return Err(Status::NoMemory);
     };
-    for index in 1..names.len() {
-        let script = read_next(alloc, names[index], so_far, shelf)?;
+    for file in 1..names.len() as u32 {
+        let script = read_next(alloc, names, file, so_far, shelf)?;
         so_far = so_far.with(&script);
-        if scripts.add(script).is_err() {
-            return Err(Status::NoMemory);
+        match scripts.add(script) {
+            Ok(()) => {}
+            Err(_) => return Err(Status::NoMemory),
         }
     }
     Ok(scripts)
@@ -97,24 +93,47 @@ pub fn read_paints<F: Shelf>(
 impl Totals {
     // The totals with those of one more script.
     fn with(self, script: &Script) -> Totals
-        requires few { self.files ≤ most_clients }
         requires room { HasRoomFor self.lines self.cuts script.now }
-        ensures files { result.files ≡ self.files + 1 }
         ensures lines { result.lines ≡ self.lines + length script.now }
         ensures cuts { result.cuts ≡ self.cuts + count_by is_cut script.now }
     {
         Totals {
-            files: self.files + 1,
             lines: self.lines + script.lines(),
             cuts: self.cuts + script.cuts(),
         }
     }
 }
 
-// Reads the file that comes after these.
+// Reads the file of this number, after those before it.
 fn read_next<F: Shelf>(
     alloc: Global,
+    names: &[&str],
+    file: u32,
+    so_far: Totals,
+    shelf: &mut F,
+) -> Result<Script, Status>
+    requires there { file < length names.now }
+    requires lines { so_far.lines ≤ most_lines }
+    requires cuts { so_far.cuts ≤ most_cuts }
+    ensures cause { HasInputCause (F.read_faults shelf.old) (F.read_faults shelf.new) result }
+    ensures writes { F.write_faults shelf.new ≡ F.write_faults shelf.old }
+    ensures status { IfErr result (IsOfTheFile file) }
+    ensures room { IfOk result (HasRoomFor so_far.lines so_far.cuts) }
+    ensures spellable { IfOk result AreSpellable }
+    ensures files { WhereTold (F.files shelf.old) (F.files shelf.new) (λ before after.
+        (after ≡ before) × Accepts file so_far.lines so_far.cuts (file_at before (name_at names.now file)) result) }
+{
+    let Some(name) = names.get(file as usize) else {
+        unreachable!()
+    };
+    read_named(alloc, name, file, so_far, shelf)
+}
+
+// Reads the file of this name and number, after those before it.
+fn read_named<F: Shelf>(
+    alloc: Global,
     name: &str,
+    file: u32,
     so_far: Totals,
     shelf: &mut F,
 ) -> Result<Script, Status>
@@ -122,33 +141,36 @@ fn read_next<F: Shelf>(
     requires cuts { so_far.cuts ≤ most_cuts }
     ensures cause { HasInputCause (F.read_faults shelf.old) (F.read_faults shelf.new) result }
     ensures writes { F.write_faults shelf.new ≡ F.write_faults shelf.old }
-    ensures status { IfErr result (IsOfTheFile so_far.files) }
+    ensures status { IfErr result (IsOfTheFile file) }
     ensures room { IfOk result (HasRoomFor so_far.lines so_far.cuts) }
     ensures spellable { IfOk result AreSpellable }
     ensures files { WhereTold (F.files shelf.old) (F.files shelf.new) (λ before after.
-        (after ≡ before) × Accepts so_far.files so_far.lines so_far.cuts (file_at before name.now) result) }
+        (after ≡ before) × Accepts file so_far.lines so_far.cuts (file_at before name.now) result) }
 {
-    let file = so_far.files;
     match shelf.read_whole(alloc, name, MOST_BYTES) {
-        Ok(bytes) => accept(alloc, &bytes, so_far),
+        Ok(bytes) => accept(alloc, &bytes, file, so_far),
         Err(ReadError::Failed) => Err(Status::InputFault { file }),
         Err(ReadError::TooLarge) => Err(Status::TooLarge { file }),
         Err(ReadError::NoMemory) => Err(Status::NoMemory),
     }
 }
 
-// The script of the file that comes after these, or the status that refuses it: its first bad line, or a limit that it
-// passes with them.
-fn accept(alloc: Global, bytes: &[u8], so_far: Totals) -> Result<Script, Status>
+// The script of the file of this number and of these bytes, or the status that refuses it: its first bad line, or a limit
+// that it passes with those before it.
+fn accept(
+    alloc: Global,
+    bytes: &[u8],
+    file: u32,
+    so_far: Totals,
+) -> Result<Script, Status>
     requires lines { so_far.lines ≤ most_lines }
     requires cuts { so_far.cuts ≤ most_cuts }
-    ensures status { IfErr result (IsOfTheFile so_far.files) }
-    ensures no_fault { (file : ℕ) → result ≢ Err (Status.InputFault file) }
+    ensures status { IfErr result (IsOfTheFile file) }
+    ensures no_fault { (named : ℕ) → result ≢ Err (Status.InputFault named) }
     ensures room { IfOk result (HasRoomFor so_far.lines so_far.cuts) }
     ensures spellable { IfOk result AreSpellable }
-    ensures scripts { Accepts so_far.files so_far.lines so_far.cuts bytes.now result }
+    ensures scripts { Accepts file so_far.lines so_far.cuts bytes.now result }
 {
-    let file = so_far.files;
     if bytes.len() as u64 > MOST_BYTES {
         return Err(Status::TooLarge { file });
     }
