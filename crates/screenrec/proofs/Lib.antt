@@ -4,3 +4,5 @@ pub mod AcceptedLaws
 pub mod AloneLaws
 pub mod RunLaws
 pub mod DemoLaws
+pub mod FileParts
+pub mod TogetherLaws

@@ -224,7 +224,8 @@ fn count_takes(order: &[Entry]) -> u32
 
 // Whether a picture was taken, as a number.
 fn taken(entry: &Entry) -> u32
-    ensures { result ≡ takes (entry.now ∷ []) }
+    ensures takes { result ≡ takes (entry.now ∷ []) }
+    ensures small { result ≤ 1 }
 {
     match entry {
         Entry::Line { .. } => 0,
