@@ -11,6 +11,7 @@ mod report;
 mod serial;
 mod stage;
 mod stream_file;
+mod together;
 
 pub use complaint::Complaint;
 pub use demo::run_demo;
