@@ -9,3 +9,6 @@ pub use clients::play_all;
 pub use h265_model::{Entry, NoMemory};
 pub use record::{RecordEnd, record_all};
 pub use session::{Recording, Session};
+
+#[cfg(test)]
+mod tests;

@@ -1,4 +1,4 @@
--- The jobs of a picture's rows, and what they give.
+-- The jobs of a picture's rows by their plans, and what they give.
 use Rattle.std.specs.Prelude.{◌≡◌, ℕ, List, [], slice_index_or, length, map}
 use Rattle.std.specs.List.{AllByRecursion}
 use Rattle.h265_model.specs.Plain.{below}
