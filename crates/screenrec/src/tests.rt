@@ -1,6 +1,8 @@
 //! Whole recordings over files in memory, and what is refused.
 mod cases;
+mod demo;
 mod faults;
+mod together;
 
 use super::*;
 use cases::{CASES, Case};
@@ -253,18 +255,18 @@ fn a_report_that_fails(rt: HostRuntime) -> Result<(), Fail> {
 }
 
 #[test]
-fn commands_that_are_not_built(rt: HostRuntime) -> Result<(), Fail> {
+fn words_that_are_not_served(rt: HostRuntime) -> Result<(), Fail> {
     let alloc = rt.alloc();
     let mut shelf = CalmShelf::new(alloc)?;
     let mut report = MemorySink::new(alloc, &[])?;
     let form = Form::Command;
-    let words = ["record", "32x32", "64", "0", "0", "o", "f"];
-    let record = run(&rt, alloc, &words, &mut shelf, &mut report, &NoGate);
-    assert_eq!(rt; record.status, Status::NotBuilt { form });
-    let demo = run_demo(alloc, &["demo", "18446744073709551615"], &mut report);
-    assert_eq!(rt; demo.status, Status::NotBuilt { form });
-    let other = run_demo(alloc, &["serial"], &mut report);
-    assert_eq!(rt; other.status, Status::Usage);
+    let words = ["decode", "i", "o"];
+    let decode = run(&rt, alloc, &words, &mut shelf, &mut report, &NoGate);
+    assert_eq!(rt; decode.status, Status::NotBuilt { form });
+    for words in [["serial", "0"], ["demo", "18446744073709551616"], ["demo", "00"]] {
+        let other = run_demo(alloc, &words, &mut report);
+        assert_eq!(rt; other.status, Status::Usage);
+    }
     Ok(())
 }
 
