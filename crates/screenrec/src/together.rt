@@ -185,12 +185,7 @@ fn status_at(lost: bool, end: RecordEnd) -> Status
 }
 
 // Reports an order that was played. Each picture was cut by a line and then taken, and each other line paints.
-fn report_order<K: Sink>(
-    alloc: Global,
-    order: &[Entry],
-    written: u64,
-    report: &mut K,
-) -> Status
+fn report_order<K: Sink>(alloc: Global, order: &[Entry], written: u64, report: &mut K) -> Status
     requires short { IsShortOrder order.now }
     ensures status { IsOfReport result }
     ensures later { K.faults report.old ≤ K.faults report.new }
