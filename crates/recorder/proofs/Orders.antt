@@ -1,6 +1,6 @@
 -- The order that a closed session gives, and what was recorded of it.
-use Rattle.std.proofs.Common.{◌≡◌, ◌≢◌, ℕ, zero, suc, ◌+◌, ◌*◌, ◌^◌, ◌<◌, ◌≤◌, Bool, false, List, [], ◌∷◌, ◌++◌, length, take, get_or, Option, Some, refl, sym, ap, subst, ◌∙◌, arith, inl, inr}
-use Rattle.std.specs.Prelude.{slice_index_or, sum_by, count_by}
+use Rattle.std.proofs.Common.{◌≡◌, ℕ, suc, ◌+◌, ◌*◌, ◌^◌, ◌<◌, ◌≤◌, Bool, false, List, [], ◌∷◌, ◌++◌, length, take, Option, Some, refl, sym, ap, subst, ◌∙◌, arith, inl, inr}
+use Rattle.std.specs.Prelude.{slice_index_or, count_by}
 use Rattle.std.specs.List.{All, range_with_len}
 use Rattle.std.proofs.lemmas.Bool.{cases_lt}
 use Rattle.std.proofs.lemmas.Option.{get_or_from_slice_get}
@@ -17,8 +17,7 @@ use Rattle.h265_model.specs.Words.{Settings}
 use Rattle.h265_model.specs.Script.{is_cut}
 use Rattle.h265_model.specs.Setting.{Setting}
 use Rattle.h265_model.specs.Raster.{Raster, pictures}
-use Rattle.h265_model.specs.Histories.{IsLawful, BeginsMerge, Merges, indexes_of, script_length, takes, cuts}
-use Rattle.h265_model.specs.Headline.{IsPlayed}
+use Rattle.h265_model.specs.Histories.{IsLawful, Merges, indexes_of, script_length, takes}
 use Rattle.h265_model.specs.Stream.{pieces}
 use Rattle.h265_laws.proofs.Prefixes.{prefixes}
 use Rattle.desk_state.specs.Standing.{most_entries}
@@ -26,12 +25,12 @@ use Rattle.desk_state.proofs.Totals.{all_within, counted_all}
 use Rattle.turn_lock.specs.Turns.{made_by}
 use Rattle.turn_lock.specs.Standing.{Standing}
 use Rattle.turn_lock.proofs.Histories.{made_by-here, made_by-later, some_is}
-use Rattle.live_desk.specs.Passes.{Client, fresh_client, passes_of}
+use Rattle.live_desk.specs.Passes.{Client, fresh_client}
 use Rattle.live_desk.specs.Desks.{IsOpened, HasClosed}
 use Rattle.recorder.specs.declared.record.RecordEnd.{RecordEnd}
 use Rattle.recorder.specs.declared.record.RecordEnd.TheVariants as end
-use Rattle.recorder.specs.Ends.{Ends, IsWhole, IsAppended, HasGrown, HasGrownInPart, HasRecorded, first_pieces, seen_pictures}
-use Rattle.recorder.specs.Players.{HasEnded, HaveEnded, AreFolded, lines_made, weight_of}
+use Rattle.recorder.specs.Ends.{Ends, HasGrown, HasRecorded, first_pieces, seen_pictures}
+use Rattle.recorder.specs.Players.{HaveEnded, AreFolded, lines_made, weight_of}
 use Rattle.recorder.specs.Sessions.{IsOrder, all_cuts}
 use Rattle.recorder.proofs.Seen.{begins_then, pictures_more, count_pictures, few_takes}
 use Rattle.recorder.proofs.Streams.{count_pieces}

@@ -1,15 +1,13 @@
 -- What a recorder's pass has seen, turn by turn.
-use Rattle.std.proofs.Common.{◌≡◌, ℕ, zero, suc, ◌+◌, ◌<◌, ◌≤◌, if◌then◌else◌, eq-eqb, Bool, List, [], ◌∷◌, ◌++◌, length, take, drop, take-append-drop, get_or, Some, refl, sym, ap, subst, ◌∙◌, arith, append_assoc, length-append}
-use Rattle.std.specs.Prelude.{slice_index_or, count_by}
+use Rattle.std.proofs.Common.{◌≡◌, ℕ, zero, suc, ◌+◌, ◌<◌, ◌≤◌, if◌then◌else◌, eq-eqb, Bool, List, [], ◌∷◌, ◌++◌, length, take, Some, refl, sym, ap, subst, ◌∙◌, arith, append_assoc, length-append}
+use Rattle.std.specs.Prelude.{slice_index_or}
 use Rattle.std.specs.List.{range_with_len}
-use Rattle.std.proofs.lemmas.List.{append-nil, take-append-le, take_more, get_or_at}
-use Rattle.std.proofs.lemmas.List.FromFn.{length-range_with_len}
+use Rattle.std.proofs.lemmas.List.{append-nil, take-append-le, take_more}
 use Rattle.h265_model.specs.declared.entry.Entry.{Entry}
 use Rattle.h265_model.specs.declared.entry.Entry.TheVariants.{Line, Take}
 use Rattle.h265_model.specs.declared.line.Job.{Job}
 use Rattle.h265_model.specs.declared.line.Line as line
-use Rattle.h265_model.specs.Plain.{Size, Picture}
-use Rattle.h265_model.specs.Script.{is_cut}
+use Rattle.h265_model.specs.Plain.{Size}
 use Rattle.h265_model.specs.Setting.{Setting}
 use Rattle.h265_model.specs.Raster.{Raster, raster, rasters_after, lines_of, pictures, coded_picture}
 use Rattle.h265_model.specs.Histories.{IsLawful, take_numbers, takes, cuts}
@@ -17,7 +15,7 @@ use Rattle.h265_model.specs.Desk.{job_for, job_of}
 use Rattle.h265_laws.proofs.PlayLaws.{rasters_after-append}
 use Rattle.px_plane.specs.Planes.{Planes, Shows}
 use Rattle.px_plane.specs.Tiles.{IsJobOf, DiffersOnlyIn}
-use Rattle.desk_state.specs.Laws.{LeadsOn, shown_at, shown_before}
+use Rattle.desk_state.specs.Laws.{shown_at, shown_before}
 use Rattle.desk_state.proofs.Entries.{lines_of-append, lines_take, takes_take, lawful_none}
 use Rattle.desk_state.proofs.Shown.{length-rasters_after}
 use Rattle.desk_state.proofs.Leading.{each_leads_on}
@@ -27,11 +25,11 @@ use Rattle.turn_lock.specs.declared.knowledge.Knowledge.{Knowledge}
 use Rattle.turn_lock.proofs.Histories.{begins_same, made_by-here, some_is}
 use Rattle.atomic_table.specs.Seated.{TableId}
 use Rattle.live_desk.specs.Passes.{fresh_recorder}
-use Rattle.live_desk.specs.Turned.{IsKept, HadTurn}
+use Rattle.live_desk.specs.Turned.{IsKept}
 use Rattle.live_desk.specs.Desks.{HasTaken, HasLooked}
-use Rattle.picture_encoder.specs.Coded.{Coded, StandsFor, TurnsInto, last_of}
+use Rattle.picture_encoder.specs.Coded.{StandsFor, TurnsInto, last_of}
 use Rattle.recorder.specs.Ends.{HasRecorded, seen_pictures}
-use Rattle.recorder.specs.Jobs.{taken_pictures, IsUpTo, IsNextJob, IsAsFar}
+use Rattle.recorder.specs.Jobs.{taken_pictures, IsNextJob, IsAsFar}
 
 abbrev Scripts : Type 0
 Scripts = List (List line.Line)

@@ -1,15 +1,15 @@
 -- The stream that a recorder has written, piece by piece.
-use Rattle.std.proofs.Common.{◌≡◌, ℕ, zero, suc, ◌+◌, ◌<◌, ◌≤◌, List, [], ◌∷◌, ◌++◌, length, take, drop, take-append-drop, get_or, Option, Some, None, refl, sym, ap, subst, ◌∙◌, arith, append_assoc, length-append}
-use Rattle.std.specs.Prelude.{slice_index_or, Result, Ok, Err}
+use Rattle.std.proofs.Common.{◌≡◌, ℕ, suc, ◌+◌, List, [], ◌∷◌, ◌++◌, length, take, drop, take-append-drop, Option, Some, None, refl, sym, ap, subst, ◌∙◌, arith, append_assoc, length-append}
+use Rattle.std.specs.Prelude.{slice_index_or, Ok, Err}
 use Rattle.std.proofs.lemmas.List.{append-nil, length-take-le, get_or_at}
 use Rattle.std.proofs.lemmas.List.Concat.{flat_map-append}
 use Rattle.h265_model.specs.declared.line.Job.{Job}
-use Rattle.h265_model.specs.Files.{WhereTold, IsPrefix}
+use Rattle.h265_model.specs.Files.{WhereTold}
 use Rattle.h265_model.specs.FileLaws.{told_on, told_same}
-use Rattle.h265_model.specs.Plain.{Size, joined}
+use Rattle.h265_model.specs.Plain.{joined}
 use Rattle.h265_model.specs.Words.{Settings}
-use Rattle.h265_model.specs.Raster.{Raster, raster, rasters_after, lines_of, pictures}
-use Rattle.h265_model.specs.Histories.{IsLawful, takes, cuts}
+use Rattle.h265_model.specs.Raster.{Raster}
+use Rattle.h265_model.specs.Histories.{IsLawful, takes}
 use Rattle.h265_model.specs.Setting.{Setting}
 use Rattle.h265_model.specs.Stream.{pieces, pieces_after}
 use Rattle.h265_model.proofs.ListParts.{take_front}
@@ -19,9 +19,8 @@ use Rattle.edges.specs.declared.sink.WriteError.{WriteError}
 use Rattle.edges.specs.declared.sink.WriteError.TheVariants as write
 use Rattle.turn_lock.specs.declared.knowledge.Knowledge.{Knowledge}
 use Rattle.picture_encoder.specs.Coded.{Coded, StandsFor, TurnsInto}
-use Rattle.recorder.specs.declared.record.RecordEnd.{RecordEnd}
 use Rattle.recorder.specs.declared.record.RecordEnd.TheVariants as end
-use Rattle.recorder.specs.Ends.{Ends, IsWhole, IsAppended, HasGrown, HasGrownInPart, first_pieces, seen_pictures}
+use Rattle.recorder.specs.Ends.{Ends, HasGrown, HasGrownInPart, first_pieces, seen_pictures}
 use Rattle.recorder.specs.Jobs.{taken_pictures, IsUpTo, IsNextJob, IsAsFar, HasStored, end_after}
 use Rattle.recorder.proofs.Seen.{count_pictures, few_takes}
 

@@ -68,10 +68,15 @@ fn play_each<R: Threads + Wait + Sync, G: Gate + Sync>(
 {
     let threads = clients.len();
     if threads > 0 {
-        thread::for_each_mut(rt, clients, threads, &|_, pass: &mut ClientPass|
-            requires { IsAt desk.now pass.old }
-            ensures { HasEnded desk.entry.now pass.old pass.new }
-        { play_one(rt, desk, pass, gate) });
+        thread::for_each_mut(
+            rt,
+            clients,
+            threads,
+            &|_, pass: &mut ClientPass|
+                requires { IsAt desk.now pass.old }
+                ensures { HasEnded desk.entry.now pass.old pass.new }
+            { play_one(rt, desk, pass, gate) },
+        );
     }
 }
 

@@ -120,7 +120,13 @@ impl Session {
     /// # Errors
     ///
     /// `NoMemory` where the allocator refuses. The scripts are then given up.
-    pub fn new(alloc: Global, size: Size, effort: u32, key: u32, scripts: Scripts) -> Result<Session, NoMemory>
+    pub fn new(
+        alloc: Global,
+        size: Size,
+        effort: u32,
+        key: u32,
+        scripts: Scripts,
+    ) -> Result<Session, NoMemory>
         requires effort { effort ≤ 2 }
         requires few { most_entries scripts < 2 ^ 32 - 1 }
         ensures settings { IfOk result (λ session. session.settings ≡ record { size = size; effort = effort; key = key }) }

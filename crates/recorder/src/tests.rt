@@ -268,7 +268,16 @@ fn one_thread_plays_and_then_records(rt: HostRuntime) -> Result<(), Fail> {
     play_all(&rt, &desk, &mut second, &NoGate)?;
     play_all(&rt, &desk, &mut first, &NoGate)?;
     assert!(rt; first.next() == 2 && second.next() == 2);
-    let end = record_all(&rt, &desk, &mut recorder, &mut encoder, 2, 4, &mut sink, &NoGate);
+    let end = record_all(
+        &rt,
+        &desk,
+        &mut recorder,
+        &mut encoder,
+        2,
+        4,
+        &mut sink,
+        &NoGate,
+    );
     assert!(rt; end == RecordEnd::Ok { written: 1152 });
     assert_eq!(rt; mark(sink.text()), (1152, 2112904952));
     Ok(())

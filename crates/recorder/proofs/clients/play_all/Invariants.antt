@@ -1,4 +1,3 @@
-use Rattle.std.proofs.Common.{◌≡◌}
 use Rattle.turn_lock.specs.Turns.{Begins}
 use Rattle.live_desk.specs.Desks.{IsSameClient}
 use Rattle.live_desk.specs.Turned.{IsKept}

@@ -1,4 +1,3 @@
-use Rattle.std.proofs.Common.{◌≡◌}
 use Rattle.recorder.specs.Ends.{HasRecorded}
 use Rattle.recorder.specs.Jobs.{IsAsFar}
 use Rattle.recorder.proofs.record.wait_for_job.Given as goal

@@ -1,15 +1,12 @@
-use Rattle.std.proofs.Common.{◌≡◌, ap, sym, ◌∙◌, subst, List, false}
+use Rattle.std.proofs.Common.{◌≡◌, ◌∙◌, subst, List, false}
 use Rattle.std.specs.List.{All}
 use Rattle.live_desk.specs.Passes.{Client}
 use Rattle.recorder.proofs.Seen.{lawful_now}
-use Rattle.h265_model.specs.Setting.{Setting}
-use Rattle.h265_model.specs.Words.{Settings}
 use Rattle.h265_model.specs.Raster.{pictures}
 use Rattle.h265_model.specs.Histories.{takes}
-use Rattle.turn_lock.specs.Standing.{Standing}
-use Rattle.recorder.specs.Ends.{Ends, seen_pictures}
+use Rattle.recorder.specs.Ends.{Ends}
 use Rattle.recorder.specs.Sessions.{IsOrder, Scripted, all_cuts}
-use Rattle.recorder.proofs.Orders.{finished, all_takes, seen_begin, is_order, ends_kept, all_taken, now_ended}
+use Rattle.recorder.proofs.Orders.{finished, all_takes, is_order, all_taken, now_ended}
 use Rattle.recorder.proofs.session.Session.run.Goals as goal
 
 pub close-requires-clause-whole : goal.close-requires-clause-whole
@@ -29,7 +26,7 @@ returns-clause-order g c =
     (is_order setting clients recorder whole c.close.result.items is c.close.ensures c.any_stopped-lost.result answer
     (λ none. subst (λ (l : List Client). All (λ p. p.stopped ≡ false) l) c.deref.ensures.value (c.any_stopped-lost.ensures none))
     (λ written ok. all_takes setting clients recorder whole c.close.result.items is c.close.ensures
-        ∙ all_taken _ _ _ _ written _ _ answer ok c.play_and_record-end.ensures.ended ∙ c.self.invariant.4))
+    ∙ all_taken _ _ _ _ written _ _ answer ok c.play_and_record-end.ensures.ended ∙ c.self.invariant.4))
 
 pub returns-clause-ended : goal.returns-clause-ended
 returns-clause-ended g c =
