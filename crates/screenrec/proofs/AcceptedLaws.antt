@@ -103,7 +103,7 @@ refused_in_front file lines cuts [] ys e is = cc
 refused_in_front file lines cuts (bytes ∷ xs) ys e is =
     first_and_others file lines cuts bytes (xs ++ ys)
     ∙ first (next file lines cuts bytes) (λ script. refused_in_front (file + 1) (lines + length script) (cuts + count_by is_cut script) xs ys)
-      (sym (first_and_others file lines cuts bytes xs) ∙ is)
+    (sym (first_and_others file lines cuts bytes xs) ∙ is)
   where
     rest : (script : List Line) (r s : Result (List (List Line)) Refusal) → ((e : Refusal) → r ≡ Err e → s ≡ Err e) → (r >>- λ more. Ok (script ∷ more)) ≡ Err e → (s >>- λ more. Ok (script ∷ more)) ≡ Err e
     rest script (Ok more) s h is = cc
@@ -144,8 +144,8 @@ accepted_in_front file lines cuts [] ys scripts is =
 accepted_in_front file lines cuts (bytes ∷ xs) ys scripts is =
     first_and_others file lines cuts bytes (xs ++ ys)
     ∙ first (next file lines cuts bytes)
-      (λ script. accepted_in_front (file + 1) (lines + length script) (cuts + count_by is_cut script) xs ys)
-      (sym (first_and_others file lines cuts bytes xs) ∙ is)
+    (λ script. accepted_in_front (file + 1) (lines + length script) (cuts + count_by is_cut script) xs ys)
+    (sym (first_and_others file lines cuts bytes xs) ∙ is)
   where
     On : Result (List (List Line)) Refusal
     On = scripts_after (file + length (bytes ∷ xs)) (lines + all_lines scripts) (cuts + all_cuts scripts) ys >>- λ more. Ok (scripts ++ more)
@@ -159,9 +159,9 @@ accepted_in_front file lines cuts (bytes ∷ xs) ys scripts is =
         ap (λ (t : Result (List (List Line)) Refusal). t >>- λ more. Ok (script ∷ more)) (h found refl)
         ∙ with_more script found (scripts_after (file + 1 + length xs) (lines + length script + all_lines found) (cuts + count_by is_cut script + all_cuts found) ys)
         ∙ ap (λ (t : Result (List (List Line)) Refusal). t >>- λ more. Ok ((script ∷ found) ++ more))
-          (same_totals ys (file + 1 + length xs) (lines + length script + all_lines found) (cuts + count_by is_cut script + all_cuts found)
-          (file + length (bytes ∷ xs)) (lines + all_lines (script ∷ found)) (cuts + all_cuts (script ∷ found)) (omega arith)
-          (omega (arith, sum_by-cons length script found)) (omega (arith, sum_by-cons (count_by is_cut) script found)))
+        (same_totals ys (file + 1 + length xs) (lines + length script + all_lines found) (cuts + count_by is_cut script + all_cuts found)
+        (file + length (bytes ∷ xs)) (lines + all_lines (script ∷ found)) (cuts + all_cuts (script ∷ found)) (omega arith)
+        (omega (arith, sum_by-cons length script found)) (omega (arith, sum_by-cons (count_by is_cut) script found)))
         ∙ ap (λ (s : List (List Line)). scripts_after (file + length (bytes ∷ xs)) (lines + all_lines s) (cuts + all_cuts s) ys >>- λ more. Ok (s ++ more)) (sym all)
     rest script (Err e) s h is = absurd (cc)
 
@@ -190,7 +190,7 @@ pub one_more_refused : (xs ys : List (List ℕ)) (bytes : List ℕ) (scripts : L
 one_more_refused xs ys bytes scripts e front one =
     accepted_in_front 0 0 0 xs (bytes ∷ ys) scripts front
     ∙ ap (λ (r : Result (List (List Line)) Refusal). r >>- λ more. Ok (scripts ++ more))
-      (from_none (bytes ∷ ys) (length xs) (all_lines scripts) (all_cuts scripts) ∙ refused_in_front (length xs) (all_lines scripts) (all_cuts scripts) (bytes ∷ []) ys e one)
+    (from_none (bytes ∷ ys) (length xs) (all_lines scripts) (all_cuts scripts) ∙ refused_in_front (length xs) (all_lines scripts) (all_cuts scripts) (bytes ∷ []) ys e one)
 
 -- ---- names
 
@@ -254,7 +254,7 @@ module _ (x : Files) (names : List (Bor (List ℕ))) (file lines cuts : ℕ) (sc
       ap (λ (l : List (List ℕ)). scripts_of (contents x l)) split.1
       ∙ ap (λ (l : List (List ℕ)). scripts_of l) (contents_split x (take file (texts names)) split.0 (name_at names file))
       ∙ one_more_refused (contents x (take file (texts names))) (contents x split.0) (file_at x (name_at names file)) scripts e so_far.0
-        (moved less so_far (file_at x (name_at names file) ∷ []) ∙ one)
+      (moved less so_far (file_at x (name_at names file) ∷ []) ∙ one)
 
   -- A refusal of this file refuses all.
   pub all_refused : (s : Status) → file < length names → IsSoFar → IsOfTheFile file s → Accepts file lines cuts (file_at x (name_at names file)) (Err s) →
@@ -280,7 +280,7 @@ module _ (x : Files) (names : List (Bor (List ℕ))) (file lines cuts : ℕ) (sc
       ap (λ (l : List (List ℕ)). scripts_of (contents x l)) (taken_more names file less)
       ∙ ap (λ (l : List (List ℕ)). scripts_of l) (contents_split x (take file (texts names)) [] (name_at names file))
       ∙ one_more_accepted (contents x (take file (texts names))) (file_at x (name_at names file)) scripts script so_far.0
-        (moved less so_far (file_at x (name_at names file) ∷ []) ∙ one)
+      (moved less so_far (file_at x (name_at names file) ∷ []) ∙ one)
 
 -- ---- what is told
 
@@ -302,7 +302,7 @@ told_refused a b c names file lines cuts scripts s less lines_so cuts_so h so_fa
     (λ x y z p q. (
       q.0 ∙ p.0,
       all_refused x names file lines cuts scripts s less (p.1, lines_so, cuts_so) h
-        (subst (λ (m : Files). Accepts file lines cuts (file_at m (name_at names file)) (Err s)) p.0 q.1),
+          (subst (λ (m : Files). Accepts file lines cuts (file_at m (name_at names file)) (Err s)) p.0 q.1),
     ))
 
 pub told_accepted : (a b c : Option Files) (names : List (Bor (List ℕ))) (file lines cuts : ℕ) (scripts : List (List Line)) (script : List Line) → file < length names →
@@ -316,7 +316,7 @@ told_accepted a b c names file lines cuts scripts script less lines_so cuts_so s
     (λ x y z p q. (
       q.0 ∙ p.0,
       more_accepted x names file lines cuts scripts script less (p.1, lines_so, cuts_so)
-        (subst (λ (m : Files). Accepts file lines cuts (file_at m (name_at names file)) (Ok script)) p.0 q.1),
+          (subst (λ (m : Files). Accepts file lines cuts (file_at m (name_at names file)) (Ok script)) p.0 q.1),
     ))
 
 -- all names were read

@@ -24,7 +24,7 @@ pub restored : (x y : Files) (out : List ℕ) → remove y out ≡ remove x out 
 restored x y out others there =
     same_map nat_list_cmp_total (slice_cmp-IsAntisymmetric nat_cmp-IsAntisymmetric) _ _ (λ q.
     at q (slice_cmp nat_cmp q out) refl
-      (sym (get-remove nat_list_cmp_total y out q) ∙ ap (λ (m : Files). get m q) others ∙ get-remove nat_list_cmp_total x out q)
+    (sym (get-remove nat_list_cmp_total y out q) ∙ ap (λ (m : Files). get m q) others ∙ get-remove nat_list_cmp_total x out q)
     ∙ sym (get-insert nat_list_cmp_total x out (file_at y out) q))
   where
     at : (q : List ℕ) (r : Ordering) → slice_cmp nat_cmp q out ≡ r → cond (is_eq r) None (get y q) ≡ cond (is_eq r) None (get x q) →

@@ -240,7 +240,7 @@ pub recorded_files : (words : RecordWords) (scripts : List (List Line)) (order f
     (lost : Bool) (answer : RecordEnd) (s : Status) → settings ≡ words.settings → played ≡ scripts → AreWithin words → All AreSpellable scripts → found ≡ order → written ≡ written_of answer →
     IsOrder played order lost answer → Reported (recorded_status lost answer) s → WhereTold a b (λ before after. Creates words.out before after (Ok tt)) →
     WhereTold b c (λ before after. file_at before words.out ≡ [] →
-      EndsInFile settings words.out (pictures settings.size played order) (all_cuts played) (takes order) before after answer) →
+    EndsInFile settings words.out (pictures settings.size played order) (all_cuts played) (takes order) before after answer) →
     WhereTold a c (λ before after. LeavesScripts words scripts before after found written s)
 recorded_files words scripts order found written settings played a b c lost answer s settings_so played_so within spelled found_so written_so is kind made told =
     let is_order : IsOrder scripts order lost answer = subst (λ (l : List (List Line)). IsOrder l order lost answer) played_so is in
@@ -248,11 +248,11 @@ recorded_files words scripts order found written settings played a b c lost answ
     (λ before after. file_at before words.out ≡ [] → EndsInFile settings words.out (pictures settings.size played order) (all_cuts played) (takes order) before after answer)
     (λ before after. LeavesScripts words scripts before after found written s) made told
     (λ x y z p q.
-      let empty : file_at y words.out ≡ [] = ap (λ (m : Files). file_at m words.out) p ∙ file_at-insert x words.out [] in
-      let ends : EndsInFile words.settings words.out (pictures words.settings.size scripts order) (all_cuts scripts) (takes order) y z answer =
-      subst (λ (l : List (List Line)). EndsInFile words.settings words.out (pictures words.settings.size l order) (all_cuts l) (takes order) y z answer) played_so
-      (subst (λ (t : Settings). EndsInFile t words.out (pictures t.size played order) (all_cuts played) (takes order) y z answer) settings_so (q empty)) in
-      subst (λ (h : List Entry). LeavesScripts words scripts x z h written s) (sym found_so)
-      (subst (λ (n : ℕ). LeavesScripts words scripts x z order n s) (sym written_so)
-      (leaves words scripts order x z lost answer s within spelled is_order kind
-        (ends_from words.settings words.out (pictures words.settings.size scripts order) (all_cuts scripts) (takes order) x y z answer p ends))))
+    let empty : file_at y words.out ≡ [] = ap (λ (m : Files). file_at m words.out) p ∙ file_at-insert x words.out [] in
+    let ends : EndsInFile words.settings words.out (pictures words.settings.size scripts order) (all_cuts scripts) (takes order) y z answer =
+    subst (λ (l : List (List Line)). EndsInFile words.settings words.out (pictures words.settings.size l order) (all_cuts l) (takes order) y z answer) played_so
+    (subst (λ (t : Settings). EndsInFile t words.out (pictures t.size played order) (all_cuts played) (takes order) y z answer) settings_so (q empty)) in
+    subst (λ (h : List Entry). LeavesScripts words scripts x z h written s) (sym found_so)
+    (subst (λ (n : ℕ). LeavesScripts words scripts x z order n s) (sym written_so)
+    (leaves words scripts order x z lost answer s within spelled is_order kind
+    (ends_from words.settings words.out (pictures words.settings.size scripts order) (all_cuts scripts) (takes order) x y z answer p ends))))

@@ -157,12 +157,7 @@ fn read_named<F: Shelf>(
 
 // The script of the file of this number and of these bytes, or the status that refuses it: its first bad line, or a limit
 // that it passes with those before it.
-fn accept(
-    alloc: Global,
-    bytes: &[u8],
-    file: u32,
-    so_far: Totals,
-) -> Result<Script, Status>
+fn accept(alloc: Global, bytes: &[u8], file: u32, so_far: Totals) -> Result<Script, Status>
     requires lines { so_far.lines ≤ most_lines }
     requires cuts { so_far.cuts ≤ most_cuts }
     ensures status { IfErr result (IsOfTheFile file) }

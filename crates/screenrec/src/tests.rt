@@ -263,7 +263,11 @@ fn words_that_are_not_served(rt: HostRuntime) -> Result<(), Fail> {
     let words = ["decode", "i", "o"];
     let decode = run(&rt, alloc, &words, &mut shelf, &mut report, &NoGate);
     assert_eq!(rt; decode.status, Status::NotBuilt { form });
-    for words in [["serial", "0"], ["demo", "18446744073709551616"], ["demo", "00"]] {
+    for words in [
+        ["serial", "0"],
+        ["demo", "18446744073709551616"],
+        ["demo", "00"],
+    ] {
         let other = run_demo(alloc, &words, &mut report);
         assert_eq!(rt; other.status, Status::Usage);
     }

@@ -146,7 +146,7 @@ fn finish<K: Sink>(alloc: Global, recording: Recording, report: &mut K) -> Outco
     ensures through { K.through report.new ≡ K.through report.old }
 {
     let Recording { order, lost, end } = recording;
-    let written = written(end);
+    let written = bytes_written(end);
     let status = match status_at(lost, end) {
         Status::Ok => report_order(alloc, &order, written, report),
         status => status,
@@ -159,7 +159,7 @@ fn finish<K: Sink>(alloc: Global, recording: Recording, report: &mut K) -> Outco
 }
 
 // The bytes in whole pieces.
-fn written(end: RecordEnd) -> u64
+fn bytes_written(end: RecordEnd) -> u64
     ensures { result ≡ written_of end }
 {
     match end {
@@ -185,12 +185,7 @@ fn status_at(lost: bool, end: RecordEnd) -> Status
 }
 
 // Reports an order that was played. Each picture was cut by a line and then taken, and each other line paints.
-fn report_order<K: Sink>(
-    alloc: Global,
-    order: &[Entry],
-    written: u64,
-    report: &mut K,
-) -> Status
+fn report_order<K: Sink>(alloc: Global, order: &[Entry], written: u64, report: &mut K) -> Status
     requires short { IsShortOrder order.now }
     ensures status { IsOfReport result }
     ensures later { K.faults report.old ≤ K.faults report.new }

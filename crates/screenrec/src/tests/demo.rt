@@ -14,7 +14,10 @@ fn the_demo_of_zero(rt: HostRuntime) -> Result<(), Fail> {
     assert_eq!(rt; outcome.status.number(), 0);
     assert_eq!(rt; outcome.order.as_slice().len(), 240);
     assert_eq!(rt; outcome.written, BYTES);
-    assert_eq!(rt; report.text(), b"pictures 6\npaints 234\nbytes 158209\n".as_slice());
+    assert_eq!(rt;
+        report.text(),
+        b"pictures 6\npaints 234\nbytes 158209\n".as_slice()
+    );
     Ok(())
 }
 

@@ -9,16 +9,17 @@ use edges::{CalmShelf, DiskShelf, Gate, MemorySink, NoGate};
 use h265_model::{Cause, Entry, Line};
 use paint_script::{Script, read_script, write_script};
 use std::alloc::Global;
-use std::fs;
-use std::hint;
 use std::process::Abort;
 use std::sync::Wait;
 use std::sync::atomic::{AtomicU64, Ordering};
 use std::test::Fail;
 use std::thread::Threads;
+use std::{fs, hint};
 
 const RED: &[u8] = b"fill 0 0 32 32 ff0000\ncut\n";
+
 const GREEN: &[u8] = b"fill 0 0 32 32 00ff00\ncut\n";
+
 const TWO_DOTS: &[u8] = b"fill 0 0 1 1 ff0000\nfill 0 0 1 1 00ff00\ncut\n";
 
 // How long a gate holds a client, in turns.
@@ -267,7 +268,10 @@ fn first_bad_files(rt: HostRuntime) -> Result<(), Fail> {
         ([b"", b"cut"], 1, 1, Cause::NoLineFeed),
     ];
     for (files, file, line, cause) in rows {
-        assert_eq!(rt; refused(&rt, &words, files)?, Status::BadPaint { file, line, cause });
+        assert_eq!(rt;
+            refused(&rt, &words, files)?,
+            Status::BadPaint { file, line, cause }
+        );
     }
     Ok(())
 }
@@ -280,8 +284,14 @@ fn cuts_of_both_files_count(rt: HostRuntime) -> Result<(), Fail> {
         cuts.extend_from_slice(b"cut\n")?;
     }
     let which = LimitKind::Cuts;
-    assert_eq!(rt; refused(&rt, &words, [&cuts, b"cut\n"])?, Status::Limit { which });
-    assert_eq!(rt; refused(&rt, &words, [b"cut\n", &cuts])?, Status::Limit { which });
+    assert_eq!(rt;
+        refused(&rt, &words, [&cuts, b"cut\n"])?,
+        Status::Limit { which }
+    );
+    assert_eq!(rt;
+        refused(&rt, &words, [b"cut\n", &cuts])?,
+        Status::Limit { which }
+    );
     Ok(())
 }
 

@@ -16,6 +16,6 @@ returns-clause-files g c =
     let told = sunk settings (pictures settings.size scripts order) (all_cuts scripts) (takes order) (g.F.Shelf.files c.new.result.shelf.now) (g.F.Shelf.files sink.shelf.now)
     c.new.result.name.now sink.name.now c.run.result.end sink.there c.run.ensures.ended c.run.ensures.beside in
     subst (λ (now : Option Files). WhereTold (g.F.Shelf.files c.args.shelf.now) now (λ before after. file_at before c.args.out.now ≡ [] →
-      EndsInFile settings c.args.out.now (pictures settings.size scripts order) (all_cuts scripts) (takes order) before after c.run.result.end))
+    EndsInFile settings c.args.out.now (pictures settings.size scripts order) (all_cuts scripts) (takes order) before after c.run.result.end))
     (search rules)
     (rw c.new.ensures.name at (rw c.new.ensures.shelf at told))
