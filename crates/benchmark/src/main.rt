@@ -1,7 +1,8 @@
-//! Measures the crates. With the name of a group, `units`, `planes`, `scripts` or `coder`, it says how long each of its works takes at best; with
+//! Measures the crates. With the name of a group, `units`, `planes`, `scripts`, `coder` or `blocks`, it says how long each of its works takes at best; with
 //! no word it does each work once, with no clock, and says what was done.
 #![tactic(auto)]
 
+mod blocks;
 mod coder;
 mod measure;
 mod noise;
@@ -28,7 +29,8 @@ fn run_all<R: Clock + Print>(rt: &R, alloc: Global) -> Result<(), Trouble> {
     units::run(rt, alloc, Mode::Once)?;
     planes::run(rt, alloc, Mode::Once)?;
     scripts::run(rt, alloc, Mode::Once)?;
-    coder::run(rt, alloc, Mode::Once)
+    coder::run(rt, alloc, Mode::Once)?;
+    blocks::run(rt, alloc, Mode::Once)
 }
 
 fn run_group<R: Clock + Print>(rt: &R, alloc: Global, word: &str) -> Result<(), Trouble> {
@@ -37,6 +39,7 @@ fn run_group<R: Clock + Print>(rt: &R, alloc: Global, word: &str) -> Result<(), 
         "planes" => planes::run(rt, alloc, Mode::Timed),
         "scripts" => scripts::run(rt, alloc, Mode::Timed),
         "coder" => coder::run(rt, alloc, Mode::Timed),
+        "blocks" => blocks::run(rt, alloc, Mode::Timed),
         _ => Err(Trouble::NoSuchGroup),
     }
 }

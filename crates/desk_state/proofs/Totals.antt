@@ -13,7 +13,7 @@ use Rattle.h265_model.specs.declared.line.Line as line
 use Rattle.h265_model.specs.declared.line.Line.TheVariants as a_line
 use Rattle.h265_model.specs.Script.{is_cut}
 use Rattle.h265_model.specs.Raster.{accepted_line, lines_of}
-use Rattle.h265_model.specs.Histories.{IsLawful, BeginsMerge, indexes_of, takes, cuts, script_length}
+use Rattle.h265_model.specs.Histories.{IsLawful, BeginsMerge, Merges, indexes_of, takes, cuts, script_length}
 use Rattle.desk_state.specs.Standing.{most_entries}
 use Rattle.desk_state.proofs.Entries.{length_is}
 
@@ -137,6 +137,22 @@ counted_in p scripts h is =
     let b : total (of_client p scripts h) n ≤ total (λ c. count_by p (slice_index_or scripts c [])) n = total_le (of_client p scripts h) (λ c. count_by p (slice_index_or scripts c [])) n (λ c less. of_client_few p scripts h c is) in
     let d = scripts_total p scripts n (omega arith) ∙ ap (sum_by (count_by p)) (take_all n scripts (omega arith)) in
     omega (arith, a, b, d)
+
+of_client_all : (p : line.Line → Bool) (scripts : Scripts) (h : List Entry) (c : ℕ) → Merges scripts h → of_client p scripts h c ≡ count_by p (slice_index_or scripts c [])
+of_client_all p scripts h c is =
+    let script : List line.Line = slice_index_or scripts c [] in
+    ap (count_by p) (ap (map (accepted_line scripts c)) (is c) ∙ front_lines script (length script) (omega arith) ∙ take_all (length script) script (omega arith))
+
+begins_all : (scripts : Scripts) (h : List Entry) → Merges scripts h → BeginsMerge scripts h
+begins_all scripts h is c = (script_length scripts c, omega arith, is c)
+
+-- of the lines of a history that has all lines as many pass as in the scripts
+pub counted_all : (p : line.Line → Bool) (scripts : Scripts) (h : List Entry) → Merges scripts h → count_by p (lines_of scripts h) ≡ sum_by (count_by p) scripts
+counted_all p scripts h is =
+    let n : ℕ = length scripts in
+    all_lines p scripts n h (all_within scripts h (begins_all scripts h is))
+    ∙ total_same (of_client p scripts h) (λ c. count_by p (slice_index_or scripts c [])) n (λ c less. of_client_all p scripts h c is)
+    ∙ scripts_total p scripts n (omega arith) ∙ ap (sum_by (count_by p)) (take_all n scripts (omega arith))
 
 all_count : (xs : List line.Line) → count_by (λ x. true) xs ≡ length xs
 all_count [] = refl

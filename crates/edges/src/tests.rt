@@ -28,10 +28,11 @@ fn write_both<K: Sink>(sink: &mut K, first: &[u8], second: &[u8]) -> Result<(), 
     sink.write(second)
 }
 
-// What a sink over a file wrote stands in the shelf.
+// What a sink over a new file wrote stands in the shelf.
 fn store(shelf: &mut CalmShelf, name: &str, piece: &[u8]) -> Result<(), WriteError>
-    ensures { OnOk result (file_at shelf.new name.now ≡ file_at shelf.old name.now ++ piece.now) }
+    ensures { OnOk result (file_at shelf.new name.now ≡ piece.now) }
 {
+    shelf.create(name)?;
     let mut sink = FileSink::new(shelf, name);
     write_both(&mut sink, piece, &[])
 }
@@ -46,7 +47,7 @@ fn files_in_memory(rt: HostRuntime) -> Result<(), Fail> {
     shelf.append("b", b"three")?;
     store(&mut shelf, "b", b"!")?;
     assert_eq!(rt; shelf.file("a"), Some(b"onetwo".as_slice()));
-    assert_eq!(rt; shelf.file("b"), Some(b"three!".as_slice()));
+    assert_eq!(rt; shelf.file("b"), Some(b"!".as_slice()));
     assert_eq!(rt;
         read(&mut shelf, &rt, "a", 6)?.as_slice(),
         b"onetwo".as_slice()

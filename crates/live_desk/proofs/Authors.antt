@@ -33,7 +33,7 @@ lines_by passes client (Take n ∷ h) less =
     ∙ zero_plus (entries_by passes client h) ∙ lines_by passes client h less
 
 -- the last number's entries are the takes
-takes_within : (n : ℕ) (h : List Entry) → IsWithin n h → entries_by (n + 1) n h ≡ takes h
+pub takes_within : (n : ℕ) (h : List Entry) → IsWithin n h → entries_by (n + 1) n h ≡ takes h
 unfolding indexes_of take_numbers
 takes_within n [] is = refl
 takes_within n (Line c i ∷ h) is =

@@ -15,7 +15,8 @@ use Rattle.turn_lock.specs.Standing.{Standing}
 use Rattle.turn_lock.specs.declared.knowledge.Knowledge.{Knowledge}
 use Rattle.turn_lock.proofs.Histories.{made_by-left, one_more-same}
 use Rattle.desk_state.specs.Standing.{next_line}
-use Rattle.desk_state.proofs.Entries.{count_own}
+use Rattle.desk_state.proofs.Entries.{count_own, count_take}
+use Rattle.desk_state.proofs.Totals.{IsWithin, all_within}
 use Rattle.live_desk.specs.declared.answers.Taken.{Taken}
 use Rattle.live_desk.specs.declared.answers.Taken.TheVariants as taken
 use Rattle.live_desk.specs.Passes.{Client, IsClient, IsRecorder, passes_of}
@@ -23,7 +24,7 @@ use Rattle.live_desk.specs.Turned.{HasTurn}
 use Rattle.live_desk.specs.Held.{HasGivenJob, HasGivenBack, HasGiven}
 use Rattle.live_desk.specs.Desks.{HasPlayed, HasStopped, HasMarked, HasTaken, HasLooked, HasClosed}
 use Rattle.live_desk.specs.Answers.{HasAnswered}
-use Rattle.live_desk.proofs.Authors.{lines_by, takes_by, own_range}
+use Rattle.live_desk.proofs.Authors.{lines_by, takes_by, takes_within, own_range}
 use Rattle.live_desk.proofs.Turning.{setting_of, history_of, mark_of, entry_given, entry_raised, entry_made, back_given, back_raised, back_made, next_is}
 
 -- a client's pass with these parts
@@ -77,6 +78,21 @@ has_marked c w after s table t same gives = record {
 last_author : (v : Knowledge) → v.passes ≡ passes_of v.setting → v.passes - 1 ≡ length v.setting.scripts
 last_author v is = omega (arith, is)
 
+-- the takes in the history are the pass's own
+own_takes : (p : Standing) (w : Knowledge) (s : State) → IsRecorder p → HasTurn p.knows s w → IsWithin (length p.knows.setting.scripts) s.history → made_by (length p.knows.setting.scripts) p.knows.made ≡ Some (takes s.history)
+own_takes p w s is t within =
+    let scripts = p.knows.setting.scripts in
+    let all : entries_by p.knows.passes (length scripts) s.history ≡ is.takes.0 = t.own (length scripts) is.takes.0 is.takes.1 in
+    is.takes.1 ∙ ap Some (sym all ∙ ap (λ (n : ℕ). entries_by n (length scripts) s.history) is.passes ∙ takes_within (length scripts) s.history within)
+
+none_left : (l : List ℕ) → length l ≡ 0 → l ≡ []
+none_left [] is = refl
+none_left (x ∷ l) is = absurd (omega (arith, is))
+
+-- what is of no client without its last take is so with it
+within_front : (n number : ℕ) (h : List Entry) → IsWithin n (h ++ entry.Take number ∷ []) → IsWithin n h
+within_front n number h is client le = none_left (indexes_of h client) (sym (count_take h number client) ∙ ap length (is client le))
+
 has_job : (p q : Standing) (w : Knowledge) (s : State) (job : _) → IsRecorder p → HasTurn p.knows s w → q.table ≡ p.table → HasGivenJob w s q.knows → job ≡ job_of s.setting s.history (takes s.history) → HasTaken p q job
 has_job p q w s job is t same gave made = record {
   base = s.history;
@@ -85,12 +101,13 @@ has_job p q w s job is t same gave made = record {
   turn = entry_given p.knows w q.knows s (entry.Take (takes s.history)) t gave.gives;
   lawful = subst (IsLawful p.knows.setting.scripts) (sym (entry_given p.knows w q.knows s (entry.Take (takes s.history)) t gave.gives).seen) (subst (λ (k : Setting). IsLawful k.scripts (s.history ++ entry.Take (takes s.history) ∷ [])) t.setting gave.lawful);
   is_job = made ∙ ap (λ (k : Setting). job_of k s.history (takes s.history)) t.setting;
+  own = own_takes p w s is t (subst (λ (k : Setting). IsWithin (length k.scripts) s.history) t.setting (within_front (length s.setting.scripts) (takes s.history) s.history (all_within s.setting.scripts (s.history ++ entry.Take (takes s.history) ∷ []) gave.lawful.begins)));
   raised = entry_raised p.knows w q.knows s (entry.Take (takes s.history)) t gave.gives;
   made = entry_made p.knows w q.knows s (entry.Take (takes s.history)) t gave.gives ∙ ap (λ (n : ℕ). one_more n p.knows.made) (last_author p.knows is.passes);
 }
 
-has_looked : (p q : Standing) (w : Knowledge) (s : State) (seen : ℕ) (mark : Bool) → HasTurn p.knows s w → q.table ≡ p.table → HasGivenBack w s q.knows seen mark → HasLooked p q seen mark
-has_looked p q w s seen mark t same gave =
+has_looked : (p q : Standing) (w : Knowledge) (s : State) (seen : ℕ) (mark : Bool) → IsRecorder p → HasTurn p.knows s w → q.table ≡ p.table → HasGivenBack w s q.knows seen mark → HasLooked p q seen mark
+has_looked p q w s seen mark is t same gave =
     let shown : q.knows.seen ≡ s.history = ap (λ (k : Knowledge). k.seen) gave.gives in
     record {
       base = s.history;
@@ -99,6 +116,7 @@ has_looked p q w s seen mark t same gave =
       lawful = subst (IsLawful p.knows.setting.scripts) (sym shown) (subst (λ (k : Setting). IsLawful k.scripts s.history) t.setting gave.lawful);
       long = gave.long ∙ ap length (sym shown);
       all = ap takes shown ∙ gave.all ∙ ap (λ (k : Setting). cuts k.scripts s.history) t.setting ∙ ap (cuts p.knows.setting.scripts) (sym shown);
+      own = own_takes p w s is t (subst (λ (k : Setting). IsWithin (length k.scripts) s.history) t.setting (all_within s.setting.scripts s.history gave.lawful.begins));
       marked = ap (λ (k : Knowledge). k.saw) gave.gives ∙ gave.marked;
       raised = back_raised p.knows w q.knows s t gave.gives;
       made = back_made p.knows w q.knows s s.mark t gave.gives;
@@ -106,8 +124,8 @@ has_looked p q w s seen mark t same gave =
 
 pub has_answered : (p q : Standing) (w : Knowledge) (s : State) (answer : Taken) → IsRecorder p → HasTurn p.knows s w → q.table ≡ p.table → HasGiven w s q.knows answer → HasAnswered p q answer
 has_answered p q w s (taken.Job job) is t same gave = has_job p q w s job is t same gave.0 gave.1
-has_answered p q w s (taken.NotYet seen) is t same gave = has_looked p q w s seen false t same gave
-has_answered p q w s (taken.Ended seen) is t same gave = has_looked p q w s seen true t same gave
+has_answered p q w s (taken.NotYet seen) is t same gave = has_looked p q w s seen false is t same gave
+has_answered p q w s (taken.Ended seen) is t same gave = has_looked p q w s seen true is t same gave
 
 stays_after : (p q : Standing) (w : Knowledge) (s : State) → IsRecorder p → HasTurn p.knows s w → q.knows ≡ gives_back w s.history s.mark → IsRecorder q
 stays_after p q w s is t gives =

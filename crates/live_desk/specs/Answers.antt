@@ -1,5 +1,5 @@
 -- The answers of a desk's calls.
-use Rattle.std.specs.Prelude.{◌≡◌, ◌≤◌, true, false}
+use Rattle.std.specs.Prelude.{◌≡◌, true, false}
 use Rattle.turn_lock.specs.Standing.{Standing}
 use Rattle.live_desk.specs.declared.answers.PlayError.{PlayError}
 use Rattle.live_desk.specs.declared.answers.PlayError.TheVariants as play
@@ -12,7 +12,7 @@ use Rattle.live_desk.specs.Desks.{HasStopped, WasBusy, HasTaken, HasLooked}
 
 -- the pass had played all its lines, and no word was touched
 pub record IsDone (old new : Client) : Type 0 where
-  pub all : old.lines ≤ old.next
+  pub all : old.next ≡ old.lines
   pub same : new ≡ old
 
 abbrev pub IsRefused : Client → Client → PlayError → Type 0

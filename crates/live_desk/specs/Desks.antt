@@ -69,7 +69,7 @@ pub record HasMarked (old new : Client) : Type 0 where
   pub next : new.next ≡ old.next
   pub stops : new.stopped ≡ old.stopped
 
--- The first cut picture that wasn't taken at this turn was taken.
+-- The first cut picture that wasn't taken at this turn was taken. All takes before it were the pass's own.
 pub record HasTaken (old new : Standing) (job : Job) : Type 0 where
   pub base : List Entry
   pub waited : takes base < cuts old.knows.setting.scripts base
@@ -77,10 +77,11 @@ pub record HasTaken (old new : Standing) (job : Job) : Type 0 where
   pub turn : HadTurn old.knows base (entry.Take (takes base) ∷ []) new.knows
   pub lawful : IsLawful old.knows.setting.scripts new.knows.seen
   pub is_job : job ≡ job_of old.knows.setting base (takes base)
+  pub own : made_by (length old.knows.setting.scripts) old.knows.made ≡ Some (takes base)
   pub raised : new.knows.raised ≡ old.knows.raised
   pub made : new.knows.made ≡ one_more (length old.knows.setting.scripts) old.knows.made
 
--- At this turn each cut was taken, the history had this length, and the mark was this.
+-- At this turn each cut was taken, by this pass, the history had this length, and the mark was this.
 pub record HasLooked (old new : Standing) (entries : ℕ) (mark : Bool) : Type 0 where
   pub base : List Entry
   pub table : new.table ≡ old.table
@@ -88,6 +89,7 @@ pub record HasLooked (old new : Standing) (entries : ℕ) (mark : Bool) : Type 0
   pub lawful : IsLawful old.knows.setting.scripts new.knows.seen
   pub long : entries ≡ length new.knows.seen
   pub all : takes new.knows.seen ≡ cuts old.knows.setting.scripts new.knows.seen
+  pub own : made_by (length old.knows.setting.scripts) old.knows.made ≡ Some (takes base)
   pub marked : new.knows.saw ≡ mark
   pub raised : new.knows.raised ≡ old.knows.raised
   pub made : new.knows.made ≡ old.knows.made

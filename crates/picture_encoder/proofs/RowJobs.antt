@@ -18,7 +18,7 @@ use Rattle.row_core.specs.Plan.{Plan}
 use Rattle.row_coder.specs.Rows.{Row, plan_of, AreTrees, AreAbove}
 use Rattle.row_coder.specs.Laws.{row_leaves, leaves_above, ArePictureLeaves}
 use Rattle.row_coder.proofs.Linked.{each_job_is_coded}
-use Rattle.row_workers.specs.Rows.{no_plan, jobs_of, HaveWidth, rows_of}
+use Rattle.row_core.specs.Plans.{no_plan, jobs_of, HaveWidth, rows_of}
 use Rattle.slice_assembly.specs.Substreams.{IsSubstream}
 use Rattle.picture_encoder.specs.declared.planning.Task.{Task}
 use Rattle.picture_encoder.specs.Planning.{planes_of_task, size_of_task, kind_of_task, chosen, all_chosen, row_chosen, job_row, row_of_task, code_of_task}
@@ -235,10 +235,8 @@ module _ (t : Task) (jobs : List Row) (e : jobs ≡ map (row_of_task t) (below (
   pub jobs_width : HaveWidth (ctus (size_of_task t).w) (map plan_of jobs)
   jobs_width = subst (λ (l : List Row). HaveWidth (ctus (size_of_task t).w) (map plan_of l)) (sym e) (have_width t)
 
-  pub jobs_give : (bytes : List (List ℕ)) → 0 < ctus (size_of_task t).w → ((width : ℕ) → HaveWidth width (map plan_of jobs) → bytes ≡ rows_of width (map plan_of jobs))
-      → bytes ≡ map (code_of_task t) (below (ctus (size_of_task t).h))
-  jobs_give bytes some known =
-      known (ctus (size_of_task t).w) jobs_width ∙ (ap (λ (l : List Row). rows_of (ctus (size_of_task t).w) (map plan_of l)) e ∙ task_rows t some)
+  pub jobs_give : 0 < ctus (size_of_task t).w → rows_of (ctus (size_of_task t).w) (map plan_of jobs) ≡ map (code_of_task t) (below (ctus (size_of_task t).h))
+  jobs_give some = ap (λ (l : List Row). rows_of (ctus (size_of_task t).w) (map plan_of l)) e ∙ task_rows t some
 
 pub rows_long : {X Y : Type 0} (f : X → Y) (rows : List X) (code : ℕ → Y) (n : ℕ) → map f rows ≡ map code (below n) → length rows ≡ n
 rows_long f rows code n e = sym (length-map rows f) ∙ (ap length e ∙ length-map-range_with_len code 0 n)

@@ -98,7 +98,21 @@ code_of_task t = row_code (kind_of_task t) (size_of_task t) (source_of (size_of_
 abbrev pub rows_of_task : Task → List (List ℕ)
 rows_of_task t = map (λ row. escape (code_of_task t row)) (below (ctus (size_of_task t).h))
 
--- the piece of a picture after those that an encoder has coded
+-- the task of a picture after those that an encoder has coded
+pub record IsTaskOf (e : Coded) (now : Planes) (t : Task) : Type 0 where
+  pub last : t.last.now ≡ e.last
+  pub current : planes_of_task t ≡ now
+  pub idr : t.idr ≡ is_idr e.settings.key e.count
+  pub effort : t.effort ≡ e.settings.effort
+
+-- the bytes of its rows
+abbrev pub codes_of : Coded → Planes → List (List ℕ)
+codes_of e now =
+    let idr : Bool = is_idr e.settings.key e.count in
+    let leaves : List (List Leaf) = map (choice (reference_of idr (picture_of e.last)) (picture_of now) now.size e.settings.effort) (below (ctus now.size.w * ctus now.size.h)) in
+    map (row_code (slice_kind idr) now.size (source_of now.size (picture_of now)) leaves) (below (ctus now.size.h))
+
+-- its piece
 abbrev pub piece_of : Coded → Planes → List ℕ
 piece_of e now =
     slice_piece (is_idr e.settings.key e.count) (order_count e.settings.key e.count % 256)

@@ -1,23 +1,32 @@
 //! The encoder of a recording.
-ghost use Rattle.std.specs.Prelude.{◌≡◌, ◌≤◌, ◌<◌, ◌-◌, ◌^◌, List, [], ◌∷◌, ◌++◌, length, IfOk, OnOk, OnErr};
+ghost use Rattle.std.specs.Prelude.{◌≡◌, ◌≤◌, ◌<◌, ◌+◌, ◌-◌, ◌^◌, List, [], ◌∷◌, ◌++◌, false, length, map, IfOk, OnOk, OnErr};
 ghost use Rattle.std.specs.Arc.{arc_value};
+ghost use Rattle.std.specs.List.{All};
+ghost use Rattle.h265_model.specs.Plain.{ctus};
 ghost use Rattle.h265_model.specs.Raster.{Raster};
 ghost use Rattle.h265_model.specs.Stream.{pieces};
 ghost use Rattle.px_plane.specs.Tiles.{IsJobOf};
 ghost use Rattle.px_plane.specs.Planes.{Shows};
 ghost use Rattle.picture_encoder.specs.Coded.{StandsFor, TurnsInto};
-ghost use Rattle.picture_encoder.specs.Planning.{IsKept, IsKeptBut, piece_of};
+ghost use Rattle.row_coder.specs.Rows.{plan_of};
+ghost use Rattle.row_core.specs.Plans.{HaveWidth, rows_of};
+ghost use Rattle.picture_encoder.specs.Planning.{IsKept, IsKeptBut, IsTask, IsTaskOf, codes_of, piece_of};
 
 use crate::order::{is_idr, order_bits};
-use crate::picture::code_picture;
+use crate::picture::picture_piece;
 use crate::planning::Task;
+use crate::rows::picture_jobs;
 use crate::tiles::flags_of;
+use edges::Gate;
 use h265_model::NoMemory;
 use param_sets::{Params, write_params};
 use px_plane::{Job, Picture, Size};
+use row_coder::CtuRow;
+use row_workers::{rows_alone, run_rows};
 use std::alloc::Global;
 use std::marker::Model;
-use std::sync::Arc;
+use std::sync::{Arc, Wait};
+use std::thread::Threads;
 
 /// Codes the pictures of a recording, one after another: a picture with a number that KEY divides as an IDR picture, and each other one as it differs
 /// from the one before. With KEY 0 only the first is an IDR picture.
@@ -109,9 +118,47 @@ impl Encoder {
     {
         let touched = flags_of(self.alloc, self.last.size(), job.tiles.as_slice())?;
         let now = self.picture_after(job)?;
-        let piece = self.piece(&now, &touched)?;
-        self.last = now;
-        self.count += 1;
+        let jobs = self.jobs(&now, &touched)?;
+        let rows = rows_alone(self.alloc, jobs)?;
+        let piece = self.piece(&now, &touched, &rows)?;
+        self.keep(now);
+        Ok(piece)
+    }
+
+    /// Lays a job over the picture before, codes the picture that it gives, and gives its piece of the stream, as `next_alone` does. The rows of the
+    /// picture are coded by so many workers, of which each may have a thread of its own.
+    ///
+    /// `gate` hears of each row that handed on its contexts, and of each that took those of the row above.
+    ///
+    /// # Errors
+    ///
+    /// `NoMemory` where the allocator refuses something. The encoder is then as it was, and any call may follow.
+    pub fn next<R: Threads + Wait + Sync, G: Gate + Sync>(
+        &mut self,
+        rt: &R,
+        job: &Job,
+        workers: u32,
+        gate: &G,
+    ) -> Result<Vec<u8>, NoMemory>
+        requires job { IsJobOf self.old.settings.size job.now }
+        requires number { job.now.number ≡ self.old.count }
+        requires few { self.old.count < 2 ^ 32 - 1 }
+        requires workers { (1 ≤ workers) × (workers ≤ 64) }
+        ensures settings { self.new.settings ≡ self.old.settings }
+        ensures sized { self.new.last.size ≡ self.new.settings.size }
+        ensures coded { OnOk result ((before : List Raster) (now : Raster) → StandsFor self.old before → TurnsInto job.now self.old.last now
+            → StandsFor self.new (before ++ now ∷ [])) }
+        ensures piece { IfOk result (λ piece. (before : List Raster) (now : Raster) → StandsFor self.old before → TurnsInto job.now self.old.last now
+            → pieces self.old.settings (before ++ now ∷ []) ≡ pieces self.old.settings before ++ piece.items ∷ []) }
+        ensures short { IfOk result (λ piece. length piece.items < 2 ^ 40) }
+        ensures err { OnErr result (self.new ≡ self.old) }
+    {
+        let touched = flags_of(self.alloc, self.last.size(), job.tiles.as_slice())?;
+        let now = self.picture_after(job)?;
+        let jobs = self.jobs(&now, &touched)?;
+        let rows = run_rows(rt, self.alloc, jobs, workers, gate)?;
+        let piece = self.piece(&now, &touched, &rows)?;
+        self.keep(now);
         Ok(piece)
     }
 
@@ -127,21 +174,57 @@ impl Encoder {
         Ok(Arc::new(self.alloc, now)?)
     }
 
-    // The piece of a picture that is the last one but for tiles that have a flag.
-    fn piece(&self, now: &Arc<Picture, Global>, touched: &[bool]) -> Result<Vec<u8>, NoMemory>
+    // What is coded of a picture that is the last one but for tiles that have a flag.
+    fn task<'a>(&'a self, now: &'a Arc<Picture, Global>, touched: &'a [bool]) -> Task<'a>
         requires { IsKept touched.now self.now.last (arc_value now.now) }
-        ensures piece { IfOk result (λ piece. piece.items ≡ piece_of self.now (arc_value now.now)) }
-        ensures short { IfOk result (λ piece. length piece.items < 2 ^ 40) }
+        ensures task { IsTask result }
+        ensures of { IsTaskOf self.now (arc_value now.now) result }
     {
-        let task = Task {
+        Task {
             last: &self.last,
             current: now,
             idr: is_idr(self.key, self.count),
             effort: self.effort,
             touched,
-        };
-        let piece = code_picture(self.alloc, &task, order_bits(self.key, self.count))?;
-        Ok(piece)
+        }
+    }
+
+    // The jobs of the rows of such a picture.
+    fn jobs(&self, now: &Arc<Picture, Global>, touched: &[bool]) -> Result<Vec<CtuRow>, NoMemory>
+        requires { IsKept touched.now self.now.last (arc_value now.now) }
+        ensures some { IfOk result (λ jobs. 0 < length jobs.items) }
+        ensures few { IfOk result (λ jobs. length jobs.items ≤ 128) }
+        ensures fresh { IfOk result (λ jobs. All (λ job. job.begun ≡ false) jobs.items) }
+        ensures width { IfOk result (λ jobs. HaveWidth (ctus (arc_value now.now).size.w) (map plan_of jobs.items)) }
+        ensures give { IfOk result (λ jobs. rows_of (ctus (arc_value now.now).size.w) (map plan_of jobs.items) ≡ codes_of self.now (arc_value now.now)) }
+    {
+        picture_jobs(self.alloc, &self.task(now, touched))
+    }
+
+    // The piece of such a picture, from the bytes of its rows.
+    fn piece(
+        &self,
+        now: &Arc<Picture, Global>,
+        touched: &[bool],
+        rows: &[Vec<u8>],
+    ) -> Result<Vec<u8>, NoMemory>
+        requires kept { IsKept touched.now self.now.last (arc_value now.now) }
+        requires rows { map (λ row. row.items) rows.now ≡ codes_of self.now (arc_value now.now) }
+        ensures piece { IfOk result (λ piece. piece.items ≡ piece_of self.now (arc_value now.now)) }
+        ensures short { IfOk result (λ piece. length piece.items < 2 ^ 40) }
+    {
+        let order = order_bits(self.key, self.count);
+        picture_piece(self.alloc, &self.task(now, touched), order, rows)
+    }
+
+    // Takes a picture that was coded for the last one.
+    fn keep(&mut self, now: Arc<Picture, Global>)
+        requires size { (arc_value now).size ≡ self.old.settings.size }
+        requires few { self.old.count < 2 ^ 32 - 1 }
+        ensures { self.new ≡ record self.old { count = self.old.count + 1; last = arc_value now } }
+    {
+        self.last = now;
+        self.count += 1;
     }
 }
 

@@ -1,21 +1,21 @@
 //! The rows of a picture's coding tree units.
-ghost use Rattle.std.specs.Prelude.{◌≡◌, ◌<◌, ◌≤◌, ◌-◌, map, IfOk, IsTrue, length};
+ghost use Rattle.std.specs.Prelude.{◌≡◌, ◌<◌, ◌≤◌, ◌-◌, false, map, IfOk, IsTrue, length};
 ghost use Rattle.std.specs.Arc.{arc_value};
 ghost use Rattle.std.specs.List.{All};
 ghost use Rattle.h265_model.specs.Plain.{ctus, below, IsPicture, AreBytes};
 ghost use Rattle.h265_model.specs.Words.{is_size};
 ghost use Rattle.px_plane.specs.Planes.{picture_of};
 ghost use Rattle.h265_model.specs.Stream.{slice_kind};
-ghost use Rattle.row_coder.specs.Rows.{leaves_of};
+ghost use Rattle.row_core.specs.Plans.{HaveWidth, rows_of};
+ghost use Rattle.row_coder.specs.Rows.{leaves_of, plan_of};
 ghost use Rattle.slice_assembly.specs.Substreams.{IsSubstream};
-ghost use Rattle.picture_encoder.specs.Planning.{row_chosen, row_of_task, code_of_task, size_of_task};
+ghost use Rattle.picture_encoder.specs.Planning.{IsTask, row_chosen, row_of_task, code_of_task, size_of_task};
 
-use crate::planning::Task;
+use crate::planning::{Task, plan_picture};
 use bin_items::Leaves;
 use h265_model::{NoMemory, SliceKind};
 use px_plane::Picture;
 use row_coder::CtuRow;
-use row_workers::rows_alone;
 use std::alloc::Global;
 
 // The slice of a picture: I or P.
@@ -80,19 +80,26 @@ fn picture_fits(picture: &Picture)
     bytes_fit(picture.plane(2));
 }
 
-/// The bytes of each row, coded on the caller's thread, from their coding units.
-pub(crate) fn code_rows(
-    alloc: Global,
-    task: &Task,
-    plans: Vec<Vec<Leaves>>,
-) -> Result<Vec<Vec<u8>>, NoMemory>
-    requires { map (λ row. leaves_of row.items) plans.items ≡ map (row_chosen task.now) (below (ctus (size_of_task task.now).h)) }
-    ensures rows { IfOk result (λ rows. map (λ row. row.items) rows.items ≡ map (code_of_task task.now) (below (ctus (size_of_task task.now).h))) }
-    ensures substreams { IfOk result (λ rows. All (λ row. IsSubstream row.items) rows.items) }
-    ensures some { IfOk result (λ rows. 0 < length rows.items) }
-    ensures few { IfOk result (λ rows. length rows.items ≤ 128) }
+/// The jobs of a picture's rows from the top: none was begun, they have one width, and they give the bytes of the rows.
+pub(crate) fn picture_jobs(alloc: Global, task: &Task) -> Result<Vec<CtuRow>, NoMemory>
+    requires { IsTask task.now }
+    ensures some { IfOk result (λ jobs. 0 < length jobs.items) }
+    ensures few { IfOk result (λ jobs. length jobs.items ≤ 128) }
+    ensures fresh { IfOk result (λ jobs. All (λ job. job.begun ≡ false) jobs.items) }
+    ensures width { IfOk result (λ jobs. HaveWidth (ctus (size_of_task task.now).w) (map plan_of jobs.items)) }
+    ensures give { IfOk result (λ jobs. rows_of (ctus (size_of_task task.now).w) (map plan_of jobs.items) ≡ map (code_of_task task.now) (below (ctus (size_of_task task.now).h))) }
 {
     picture_fits(task.current);
-    let rows = rows_alone(alloc, row_jobs(alloc, task, plans)?)?;
-    Ok(rows)
+    let jobs = row_jobs(alloc, task, plan_picture(alloc, task)?)?;
+    Ok(jobs)
+}
+
+/// The bytes of a picture's rows can stand in its NAL unit.
+pub(crate) fn rows_fit(task: &Task, rows: &[Vec<u8>])
+    requires { map (λ row. row.items) rows.now ≡ map (code_of_task task.now) (below (ctus (size_of_task task.now).h)) }
+    ensures substreams { All (λ row. IsSubstream row.items) rows.now }
+    ensures some { 0 < length rows.now }
+    ensures few { length rows.now ≤ 128 }
+{
+    picture_fits(task.current);
 }

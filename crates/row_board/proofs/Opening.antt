@@ -11,7 +11,8 @@ use Rattle.h265_model.specs.Board.{Fits, want_of, give_of, row_inherits}
 use Rattle.row_core.specs.Plan.{Plan}
 use Rattle.row_board.specs.declared.piece.Piece.TheVariants.{Job}
 use Rattle.row_board.specs.declared.knowledge.Knowledge.{Knowledge}
-use Rattle.row_board.specs.Rows.{wanted, SeatFits, Kept, job_view, job_fits, no_plan, jobs_of, HaveWidth, width_of, opening_view}
+use Rattle.row_core.specs.Plans.{no_plan, jobs_of, HaveWidth}
+use Rattle.row_board.specs.Rows.{wanted, SeatFits, Kept, job_view, job_fits, width_of, opening_view}
 
 -- what each row hands on and gives, by the two lists
 pub want_at : (jobs : Jobs) (n r : ℕ) → r < n → wanted (want_of jobs n) r ≡ jobs.second r (inherited jobs r)

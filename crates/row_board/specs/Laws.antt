@@ -4,12 +4,13 @@ use Rattle.std.specs.List.{All}
 use mathlib.Core.Option.{none}
 use Rattle.atomic_table.specs.Table.{State, Me, step, Allows, Splits, Joins, opening}
 use Rattle.row_core.specs.Plan.{Plan}
+use Rattle.row_core.specs.Plans.{HaveWidth}
 use Rattle.row_board.specs.declared.piece.Piece.{Piece}
 use Rattle.row_board.specs.declared.piece.Piece.TheVariants.{Nothing, Job, Shown}
 use Rattle.row_board.specs.declared.knowledge.Stage.TheVariants.{Open}
 use Rattle.row_board.specs.declared.knowledge.Claimed.{Claimed}
 use Rattle.row_board.specs.declared.knowledge.Knowledge.{Knowledge}
-use Rattle.row_board.specs.Rows.{Kept, job_fits, HaveWidth, opening_view, claim_of, wanted, claimed, laid, picked_up, published, lost, synced, lighter, newcomer, merged, spent}
+use Rattle.row_board.specs.Rows.{Kept, job_fits, opening_view, claim_of, wanted, claimed, laid, picked_up, published, lost, synced, lighter, newcomer, merged, spent}
 
 -- the seat claimed the row, which is open
 pub record IsOpen (v : Knowledge) (r : ℕ) (c : Claimed) : Type 0 where

@@ -3,11 +3,10 @@
 use Rattle.std.specs.Prelude.{◌≡◌, ◌≢◌, ◌⊎◌, ℕ, ◌+◌, ◌-◌, ◌^◌, ◌<◌, ◌≤◌, ◌==◌, ◌||◌, List, [], ◌∷◌, ◌++◌, length, slice_index, slice_index_or, Bool, true, false, if◌then◌else◌, Option, Some, None}
 use mathlib.Core.Option.{some}
 use lib.ListN.{get_elem?}
-use Rattle.std.specs.List.{AllByRecursion}
 use Rattle.atomic_table.specs.Table.{State, Me, Step}
-use Rattle.h265_model.specs.Wave.{Jobs}
 use Rattle.h265_model.specs.Board.{JobView, Fits, want_of, give_of}
 use Rattle.row_core.specs.Plan.{Plan}
+use Rattle.row_core.specs.Plans.{jobs_of}
 use Rattle.row_board.specs.declared.piece.Piece.{Piece}
 use Rattle.row_board.specs.declared.piece.Piece.TheVariants.{Nothing, Job, Shown}
 use Rattle.row_board.specs.declared.knowledge.Stage.{Stage}
@@ -178,21 +177,6 @@ job_view plan begun j = record { begun = begun j; width = (plan j).width; second
 
 abbrev pub job_fits : {J : Type 0} → (J → Plan) → (J → Bool) → ℕ → List (List ℕ) → List (List ℕ) → ℕ → J → Type 0
 job_fits plan begun width want give r j = Fits width want give r (job_view plan begun j)
-
-abbrev pub no_plan : Plan
-no_plan = record { width = 0; second = λ inherited. []; bytes = λ inherited. [] }
-
--- the jobs with these plans, of this width, by row
-abbrev pub jobs_of : ℕ → List Plan → Jobs
-jobs_of width plans = record {
-  width = width;
-  second = λ r inherited. (slice_index_or plans r no_plan).second inherited;
-  bytes = λ r inherited. (slice_index_or plans r no_plan).bytes inherited;
-}
-
--- all plans have this width
-abbrev pub HaveWidth : ℕ → List Plan → Type 0
-HaveWidth width plans = AllByRecursion (λ plan. plan.width ≡ width) plans
 
 -- the width of rows of one width
 abbrev pub width_of : List Plan → ℕ

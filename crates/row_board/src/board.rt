@@ -1,6 +1,7 @@
 ghost use Rattle.std.specs.Prelude.{◌≡◌, ◌≢◌, ℕ, ◌+◌, ◌-◌, ◌*◌, ◌^◌, ◌<◌, ◌≤◌, [], ◌∷◌, true, false, length, Some, IfOk, OnOk, IfErr, IfSome, IfNone, map, vec_len};
 ghost use Rattle.std.specs.List.{All};
-ghost use Rattle.row_board.specs.Rows.{wanted, merged, lighter, newcomer, job_fits, AllClaimed, HaveWidth, opening_view};
+ghost use Rattle.row_board.specs.Rows.{wanted, merged, lighter, newcomer, job_fits, AllClaimed, opening_view};
+ghost use Rattle.row_core.specs.Plans.{HaveWidth};
 ghost use Rattle.row_board.specs.Standing.{HasOpen, HasUnsynced, IsSynced, has_claimed, HasMetNone, has_published, has_lost, has_synced, SyncMissed};
 ghost use Rattle.row_board.specs.declared.piece.Piece.TheVariants.{Job};
 

@@ -7,7 +7,7 @@ use Rattle.std.proofs.lemmas.Bool.{eqb-true, eqb-false}
 use Rattle.h265_model.specs.Plain.{below}
 use Rattle.h265_model.specs.Wave.{Jobs, inherited, row_bytes}
 use Rattle.row_core.specs.Plan.{Plan}
-use Rattle.row_workers.specs.Rows.{no_plan, jobs_of, HaveWidth, rows_of}
+use Rattle.row_core.specs.Plans.{no_plan, jobs_of, HaveWidth, rows_of}
 
 module _ {A : Type 0} where
   -- the element behind a front

@@ -1,1 +1,3 @@
+mod Claiming
+mod Gathering
 mod InOrder

@@ -1,8 +1,9 @@
 //! Rows on the caller's thread.
 ghost use Rattle.std.specs.Prelude.{ℕ, OnOk, ◌≡◌, ◌<◌, ◌≤◌, ◌==◌, ◌+◌, false, true, length, map, Option, Some, None, IfOk, if◌then◌else◌};
 ghost use Rattle.std.specs.List.{All};
-ghost use Rattle.row_workers.specs.Rows.{HaveWidth, rows_of};
+ghost use Rattle.row_core.specs.Plans.{HaveWidth, rows_of};
 
+use crate::SHOWN;
 use h265_model::NoMemory;
 use row_core::{Contexts, RowJob};
 use std::alloc::Global;
@@ -29,7 +30,7 @@ fn code_units<J: RowJob>(job: &mut J) -> Result<Option<Contexts>, NoMemory>
     let mut second = None;
     for unit in 0..job.width() {
         job.code_next()?;
-        if unit == 1 {
+        if unit + 1 == SHOWN {
             second = Some(job.contexts());
         }
     }

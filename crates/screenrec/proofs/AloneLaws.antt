@@ -41,7 +41,7 @@ count_from p (line ∷ lines) a b = count_from p lines (a + cond (not (p line)) 
     go true = omega arith
     go false = omega arith
 
-count_both : (p : Line → Bool) (lines : List Line) → count_by (λ line. not (p line)) lines + count_by p lines ≡ length lines
+pub count_both : (p : Line → Bool) (lines : List Line) → count_by (λ line. not (p line)) lines + count_by p lines ≡ length lines
 count_both p lines = count_from p lines 0 0 ∙ omega arith
 
 pub report_is : (script : List Line) (written : ℕ) →
@@ -75,7 +75,7 @@ all_by : {X : Type 0} (P : X → Type 0) (xs : List X) → All P xs → AllByRec
 all_by P [] h = tt
 all_by P (x ∷ xs) h = (h 0 x (omega arith), all_by P xs (λ k d l. h (suc k) d (omega arith)))
 
-colours_of : (line : Line) → IsSpellable line → HasColours line
+pub colours_of : (line : Line) → IsSpellable line → HasColours line
 colours_of (Fill r c) h = record { r = h.1.r; g = h.1.g; b = h.1.b }
 colours_of (Blit r pixels) h =
     all_by IsColour pixels (λ k d l. let c : IsSpellableColour (slice_index_or pixels k d) = h.1.colours k d l in record { r = c.r; g = c.g; b = c.b })

@@ -7,7 +7,7 @@ use Rattle.h265_model.specs.Headline.{IsUntouched, scripts_of, scripts_after, co
 use Rattle.h265_model.specs.Files.{Files, WhereTold, file_at}
 use Rattle.screenrec.specs.declared.outcome.Status.{Status}
 use Rattle.screenrec.specs.declared.outcome.Status.TheVariants as status
-use Rattle.screenrec.specs.Accepted.{Accepts, IsOfOneFile}
+use Rattle.screenrec.specs.Accepted.{Accepts, IsOfTheFile}
 use Rattle.screenrec.specs.Recording.{serial_task, LeavesTask}
 use Rattle.screenrec.proofs.StoredLaws.{told_as}
 
@@ -18,8 +18,8 @@ accepts_none : (x : Files) (file : List ℕ) → IsOk (scripts_of (take 0 (conte
 unfolding scripts_after
 accepts_none x file = refl
 
-leaves_refused : (words : SerialWords) (s : Status) (order : List Entry) (written : ℕ) (x y : Files) → IsOfOneFile s → order ≡ [] → written ≡ 0 →
-    y ≡ x → Accepts (file_at x words.file) (Err s) → LeavesTask (serial_task words) x y order written s
+leaves_refused : (words : SerialWords) (s : Status) (order : List Entry) (written : ℕ) (x y : Files) → IsOfTheFile 0 s → order ≡ [] → written ≡ 0 →
+    y ≡ x → Accepts 0 0 0 (file_at x words.file) (Err s) → LeavesTask (serial_task words) x y order written s
 leaves_refused words (status.BadPaint f l c) order written x y h p q e a = record { refused = a; untouched = untouched order x y written p q e }
 leaves_refused words (status.Limit w) order written x y h p q e a = record { refused = a; untouched = untouched order x y written p q e }
 leaves_refused words (status.InputFault f) order written x y h p q e a = record {
@@ -35,10 +35,10 @@ leaves_refused words status.ReportFault order written x y h p q e a = absurd h
 leaves_refused words (status.BadStream at) order written x y h p q e a = absurd h
 leaves_refused words (status.NotBuilt form) order written x y h p q e a = absurd h
 
-pub files_refused : (a b : Option Files) (words : SerialWords) (s : Status) (order : List Entry) (written : ℕ) → IsOfOneFile s → order ≡ [] → written ≡ 0 →
-    WhereTold a b (λ before after. (after ≡ before) × Accepts (file_at before words.file) (Err s)) →
+pub files_refused : (a b : Option Files) (words : SerialWords) (s : Status) (order : List Entry) (written : ℕ) → IsOfTheFile 0 s → order ≡ [] → written ≡ 0 →
+    WhereTold a b (λ before after. (after ≡ before) × Accepts 0 0 0 (file_at before words.file) (Err s)) →
     WhereTold a b (λ before after. LeavesTask (serial_task words) before after order written s)
 files_refused a b words s order written h p q told =
-    told_as a b (λ before after. (after ≡ before) × Accepts (file_at before words.file) (Err s))
+    told_as a b (λ before after. (after ≡ before) × Accepts 0 0 0 (file_at before words.file) (Err s))
     (λ before after. LeavesTask (serial_task words) before after order written s) told
     (λ x y t. leaves_refused words s order written x y h p q t.0 t.1)

@@ -6,7 +6,7 @@ use Rattle.std.specs.Prelude.{slice_index_or, IfOk}
 use Rattle.std.specs.List.{slice_get}
 use Rattle.std.specs.FinMap.{insert}
 use Rattle.h265_model.specs.declared.line.Line.{Line}
-use Rattle.h265_model.specs.declared.line.Line.TheVariants.{Cut}
+use Rattle.h265_model.specs.declared.line.Line.TheVariants.{Fill, Blit, Cut}
 use Rattle.h265_model.specs.Plain.{joined}
 use Rattle.h265_model.specs.Words.{Settings}
 use Rattle.h265_model.specs.Script.{is_cut}
@@ -50,6 +50,12 @@ pub spellable_at : (lines : List Line) (i : ℕ) (line : Line) → AreSpellable 
 spellable_at [] i line all e = absurd (cc)
 spellable_at (x ∷ lines) zero line all e = let same : line ≡ x = cc in subst IsSpellable (sym same) (all 0 x (omega arith))
 spellable_at (x ∷ lines) (suc i) line all e = spellable_at lines i line (λ k d h. all (suc k) d (omega arith)) e
+
+-- a line that is no cut paints
+pub paints : (line : Line) → (line ≡ Cut → ⊥) → is_cut line ≡ false
+paints (Fill r c) not_cut = refl
+paints (Blit r pixels) not_cut = refl
+paints Cut not_cut = absurd (not_cut refl)
 
 module _ (settings : Settings) where
   -- ---- one more line

@@ -5,13 +5,14 @@ use Rattle.h265_model.specs.declared.line.Line.{Line}
 use Rattle.h265_model.specs.Words.{Settings, SerialWords, RecordWords, Row, Record, Serial, Demo, Decode}
 use Rattle.h265_model.specs.Raster.{pictures}
 use Rattle.h265_model.specs.Histories.{IsLawful, Merges, own_order}
-use Rattle.h265_model.specs.Files.{Files, IsPrefix, file_at}
+use Rattle.h265_model.specs.Files.{Files, IsPrefix, file_at, Rose}
 use Rattle.h265_model.specs.Headline.{Refusal, TooLarge, BadPaint, Limit, scripts_of, contents, IsPlayed, IsRecorded, IsUntouched, IsCutShort, report_of}
 use Rattle.screenrec.specs.declared.outcome.Status.{Status}
 use Rattle.screenrec.specs.declared.outcome.Status.TheVariants as status
 use Rattle.screenrec.specs.declared.outcome.Form.{Form}
 use Rattle.screenrec.specs.declared.outcome.Form.TheVariants.{Command}
 use Rattle.screenrec.specs.Answers.{Counts, NoneRose}
+use Rattle.screenrec.specs.Demo.{IsOfDemo, LeavesDemo, ReportsDemo}
 
 -- ---- the order of a recording
 
@@ -109,25 +110,26 @@ module _ (task : Task) (before after : Files) (order : List Entry) (written : �
 
 -- ---- what a call does for its words
 
--- nothing, as they are in no row of its table; nothing yet, as the command isn't built; or a recording
+-- nothing, as they are in no row of its table; nothing yet, as the command isn't built; a recording; or a demo of a number
 pub data Service : Type 0 where
   NoRow : Service
   NotYet : Form → Service
   Does : Task → Service
+  Plays : ℕ → Service
 
 abbrev pub serial_service : Option Row → Service
 serial_service (Some (Serial words)) = Does (serial_task words)
 serial_service _ = NoRow
 
 abbrev pub demo_service : Option Row → Service
-demo_service (Some (Demo number)) = NotYet Command
+demo_service (Some (Demo number)) = Plays number
 demo_service _ = NoRow
 
 abbrev pub run_service : Option Row → Service
 run_service None = NoRow
 run_service (Some (Serial words)) = Does (serial_task words)
-run_service (Some (Record words)) = NotYet Command
-run_service (Some (Demo number)) = NotYet Command
+run_service (Some (Record words)) = Does (record_task words)
+run_service (Some (Demo number)) = Plays number
 run_service (Some (Decode words)) = NotYet Command
 
 -- what isn't answered for words that are served
@@ -141,6 +143,7 @@ abbrev pub Answers : Service → Status → Type 0
 Answers NoRow answer = (answer ≡ status.Usage) ⊎ (answer ≡ status.NoMemory)
 Answers (NotYet form) answer = (answer ≡ status.NotBuilt form) ⊎ (answer ≡ status.NoMemory)
 Answers (Does task) answer = IsServed answer
+Answers (Plays number) answer = IsOfDemo answer
 
 -- ---- what needs no file to be told
 
@@ -161,11 +164,12 @@ RefusesTask (status.TooLarge file) order written = IsEmpty order written
 RefusesTask (status.BadStream at) order written = IsEmpty order written
 RefusesTask (status.NotBuilt form) order written = IsEmpty order written
 
--- nor is there an order where nothing is done for the words
+-- nor is there an order where nothing is done for the words. The order and the length of a demo are those of its number
 abbrev pub RefusesEmpty : Service → Status → List Entry → ℕ → Type 0
 RefusesEmpty NoRow answer order written = IsEmpty order written
 RefusesEmpty (NotYet form) answer order written = IsEmpty order written
 RefusesEmpty (Does task) answer order written = RefusesTask answer order written
+RefusesEmpty (Plays number) answer order written = LeavesDemo number answer order written
 
 -- a file that an answer names is one of the words
 abbrev pub IsOfFile : List (List ℕ) → Status → Type 0
@@ -178,6 +182,7 @@ abbrev pub NamesFile : Service → Status → Type 0
 NamesFile (Does task) answer = IsOfFile task.files answer
 NamesFile NoRow answer = Unit {0}
 NamesFile (NotYet form) answer = Unit {0}
+NamesFile (Plays number) answer = Unit {0}
 
 -- ---- what is told of files and report
 
@@ -186,6 +191,7 @@ abbrev pub Leaves : Service → Files → Files → Status → List Entry → �
 Leaves NoRow before after answer order written = IsUntouched order before after written
 Leaves (NotYet form) before after answer order written = IsUntouched order before after written
 Leaves (Does task) before after answer order written = LeavesTask task before after order written answer
+Leaves (Plays number) before after answer order written = after ≡ before
 
 -- With Ok the report grew by its text, and with ReportFault by a part of it.
 abbrev pub ReportsTask : Task → Files → List ℕ → List ℕ → Status → List Entry → ℕ → Type 0
@@ -200,10 +206,28 @@ abbrev pub Reports : Service → Files → List ℕ → List ℕ → Status → 
 Reports NoRow before was now answer order written = now ≡ was
 Reports (NotYet form) before was now answer order written = now ≡ was
 Reports (Does task) before was now answer order written = ReportsTask task before was now answer order written
+Reports (Plays number) before was now answer order written = ReportsDemo number was now answer order written
 
 -- Completeness: where the files are accepted and no count rose, the answer is Ok, but for want of memory.
 abbrev pub IsComplete : Service → Files → Counts → Counts → Status → Type 0
 IsComplete (Does task) before counts counts_now answer =
     IsOk (scripts_in task before) → NoneRose counts counts_now → (answer ≡ status.Ok) ⊎ (answer ≡ status.NoMemory)
+IsComplete (Plays number) before counts counts_now answer = NoneRose counts counts_now → (answer ≡ status.Ok) ⊎ (answer ≡ status.NoMemory)
 IsComplete NoRow before counts counts_now answer = Unit {0}
 IsComplete (NotYet form) before counts counts_now answer = Unit {0}
+
+-- ---- a demo by itself, which has no files
+
+-- the report of a demo
+abbrev pub TellsDemo : Service → List ℕ → List ℕ → Status → List Entry → ℕ → Type 0
+TellsDemo (Plays number) was now answer order written = ReportsDemo number was now answer order written
+TellsDemo NoRow was now answer order written = now ≡ was
+TellsDemo (NotYet form) was now answer order written = now ≡ was
+TellsDemo (Does task) was now answer order written = now ≡ was
+
+-- where the report's count didn't rise, the answer is Ok, but for want of memory
+abbrev pub IsCompleteDemo : Service → ℕ → ℕ → Status → Type 0
+IsCompleteDemo (Plays number) before now answer = ¬ Rose before now → (answer ≡ status.Ok) ⊎ (answer ≡ status.NoMemory)
+IsCompleteDemo NoRow before now answer = Unit {0}
+IsCompleteDemo (NotYet form) before now answer = Unit {0}
+IsCompleteDemo (Does task) before now answer = Unit {0}

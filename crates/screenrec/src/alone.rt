@@ -33,8 +33,8 @@ fn entries(alloc: Global, lines: u32) -> Result<History, NoMemory>
     Ok(History::from_vec(entries))
 }
 
-// The status of a failed write of the stream.
-fn status_of(error: WriteError) -> Status
+/// The status of a failed write of the stream.
+pub(crate) fn status_of(error: WriteError) -> Status
     ensures { result ≡ sink_status error }
 {
     match error {

@@ -11,6 +11,7 @@ mod report;
 mod serial;
 mod stage;
 mod stream_file;
+mod together;
 
 pub use complaint::Complaint;
 pub use demo::run_demo;
@@ -21,6 +22,7 @@ pub use outcome::{Form, Outcome, Status};
 pub use recording::run;
 pub use serial::run_serial;
 use std::alloc::Global;
+use std::io::ErrorKind;
 use std::process::ExitCode;
 use std::rt::Env;
 use std::{env, fs};
@@ -53,8 +55,10 @@ fn main(rt: HostRuntime) -> ExitCode {
 
 // The words after the program's name. Words that aren't UTF-8 are in no row of the table.
 fn arguments<R: Env + AllocGlobal>(rt: &R, alloc: Global) -> Result<Vec<String>, Status> {
-    let Ok(args) = env::args(rt) else {
-        return Err(Status::Usage);
+    let args = match env::args(rt) {
+        Ok(args) => args,
+        Err(error) if error.kind() == ErrorKind::OutOfMemory => return Err(Status::NoMemory),
+        Err(_) => return Err(Status::Usage),
     };
     let mut texts = Vec::new(alloc);
     for word in args.skip(1) {

@@ -7,6 +7,8 @@ ghost use Rattle.screenrec.specs.Answers.{counts, HasCauses, IsSilent};
 ghost use Rattle.screenrec.specs.Recording.{run_service, Answers, RefusesEmpty, NamesFile, Leaves, Reports, IsComplete};
 
 use crate::alone::serve;
+use crate::demo::serve_demo;
+use crate::together::serve_together;
 use crate::{Form, Outcome, Status};
 use command_line::{Row, read_words};
 use edges::{Gate, Shelf, Sink};
@@ -14,14 +16,14 @@ use std::alloc::Global;
 use std::sync::Wait;
 use std::thread::Threads;
 
-/// Serves every row of words, if it returns. Today `record`, `demo` and `decode` aren't built.
+/// Serves every row of words, if it returns. Today `decode` isn't built.
 pub fn run<R: Threads + Wait + Sync, F: Shelf + Send, K: Sink, G: Gate + Sync>(
-    _rt: &R,
+    rt: &R,
     alloc: Global,
     words: &[&str],
     shelf: &mut F,
     report: &mut K,
-    _gate: &G,
+    gate: &G,
 ) -> Outcome
     // Usage and NotBuilt come exactly where the words say so, but for want of memory.
     ensures words { Answers (run_service (row_of (texts words.now))) result.status }
@@ -56,8 +58,10 @@ pub fn run<R: Threads + Wait + Sync, F: Shelf + Send, K: Sink, G: Gate + Sync>(
 {
     match read_words(words) {
         None => Outcome::refused(alloc, Status::Usage),
+        Some(Row::Record(words)) => serve_together(rt, alloc, &words, shelf, report, gate),
         Some(Row::Serial(words)) => serve(alloc, &words, shelf, report),
-        Some(_) => Outcome::refused(
+        Some(Row::Demo(number)) => serve_demo(alloc, number, report),
+        Some(Row::Decode(_)) => Outcome::refused(
             alloc,
             Status::NotBuilt {
                 form: Form::Command,

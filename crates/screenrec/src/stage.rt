@@ -43,6 +43,13 @@ impl Stage {
         })
     }
 
+    /// How many pictures were cut.
+    pub fn cuts(&self) -> u32
+        ensures { result ≡ self.now.cuts }
+    {
+        self.cuts
+    }
+
     /// The first piece of the stream: the parameter sets.
     ///
     /// # Errors

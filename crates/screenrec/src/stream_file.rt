@@ -77,8 +77,8 @@ fn play_line<F: Shelf>(
     Ok(0)
 }
 
-// The line of this number.
-fn line_at(script: &Script, index: u32) -> &Line
+/// The line of this number.
+pub(crate) fn line_at(script: &Script, index: u32) -> &Line
     requires inside { index < length script.now }
     requires spellable { AreSpellable script.now }
     ensures line { result.now ≡ slice_index_or script.now index result.now }

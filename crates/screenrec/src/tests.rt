@@ -1,6 +1,8 @@
 //! Whole recordings over files in memory, and what is refused.
 mod cases;
+mod demo;
 mod faults;
+mod together;
 
 use super::*;
 use cases::{CASES, Case};
@@ -43,18 +45,83 @@ fn streams_are_those_of_the_model(rt: HostRuntime) -> Result<(), Fail> {
     Ok(())
 }
 
+// The stream of a script of one text, so many times.
+struct Long {
+    size: &'static str,
+    effort: &'static str,
+    key: &'static str,
+    block: &'static str,
+    times: usize,
+    bytes: usize,
+    digest: u64,
+}
+
+// Each third cut finds nothing changed.
+const CHANGES: &str = "fill 3 1 9 7 80c0ff\ncut\nfill 5 2 4 4 102030\ncut\ncut\n";
+
+// The count of pictures in a header begins anew after 256 pictures, and at each IDR picture. The values are the independent model's.
+const LONG: [Long; 5] = [
+    Long {
+        size: "32x32",
+        effort: "0",
+        key: "0",
+        block: "cut\n",
+        times: 258,
+        bytes: 7_520,
+        digest: 0x60ca_4a94_5572_16e2,
+    },
+    Long {
+        size: "31x33",
+        effort: "1",
+        key: "0",
+        block: CHANGES,
+        times: 100,
+        bytes: 87_493,
+        digest: 0x2c26_f5ff_008b_2eda,
+    },
+    Long {
+        size: "31x33",
+        effort: "1",
+        key: "1",
+        block: CHANGES,
+        times: 100,
+        bytes: 132_976,
+        digest: 0xbad1_c0c7_b339_65e7,
+    },
+    Long {
+        size: "31x33",
+        effort: "1",
+        key: "7",
+        block: CHANGES,
+        times: 100,
+        bytes: 93_863,
+        digest: 0x19eb_8e98_3799_69c6,
+    },
+    Long {
+        size: "9x9",
+        effort: "2",
+        key: "7",
+        block: CHANGES,
+        times: 100,
+        bytes: 63_240,
+        digest: 0x154c_1304_07df_02c1,
+    },
+];
+
 #[test]
-fn the_count_of_pictures_in_a_header_begins_anew(rt: HostRuntime) -> Result<(), Fail> {
+fn long_streams_are_those_of_the_model(rt: HostRuntime) -> Result<(), Fail> {
     let alloc = rt.alloc();
-    let mut shelf = CalmShelf::new(alloc)?;
-    shelf.put("f", &cuts(alloc, 258)?)?;
-    let mut report = MemorySink::new(alloc, &[])?;
-    let words = ["serial", "32x32", "0", "0", "o", "f"];
-    let outcome = run_serial(alloc, &words, &mut shelf, &mut report);
-    let stream = shelf.file("o").ok_or("no stream")?;
-    assert_eq!(rt; outcome.status, Status::Ok);
-    assert_eq!(rt; stream.len(), 7520);
-    assert_eq!(rt; digest(stream), 0x60ca4a94557216e2);
+    for case in &LONG {
+        let mut shelf = CalmShelf::new(alloc)?;
+        shelf.put("f", &repeated(alloc, case.block, case.times)?)?;
+        let mut report = MemorySink::new(alloc, &[])?;
+        let words = ["serial", case.size, case.effort, case.key, "o", "f"];
+        let outcome = run_serial(alloc, &words, &mut shelf, &mut report);
+        let stream = shelf.file("o").ok_or("no stream")?;
+        assert_eq!(rt; outcome.status, Status::Ok);
+        assert_eq!(rt; stream.len(), case.bytes);
+        assert_eq!(rt; digest(stream), case.digest);
+    }
     Ok(())
 }
 
@@ -130,11 +197,11 @@ fn first_bad_lines(rt: HostRuntime) -> Result<(), Fail> {
     Ok(())
 }
 
-// A file of this many cuts.
-fn cuts(alloc: Global, lines: usize) -> Result<Vec<u8>, NoMemory> {
+// A file of this text, so many times.
+fn repeated(alloc: Global, block: &str, times: usize) -> Result<Vec<u8>, NoMemory> {
     let mut bytes = Vec::new(alloc);
-    for _ in 0..lines {
-        bytes.extend_from_slice(b"cut\n")?;
+    for _ in 0..times {
+        bytes.extend_from_slice(block.as_bytes())?;
     }
     Ok(bytes)
 }
@@ -144,11 +211,11 @@ fn limits(rt: HostRuntime) -> Result<(), Fail> {
     let alloc = rt.alloc();
     let words = ["serial", "32x32", "0", "1", "o", "f"];
     let (which, more) = (LimitKind::Lines, LimitKind::Cuts);
-    let mut paint = cuts(alloc, 4_194_304)?;
+    let mut paint = repeated(alloc, "cut\n", 4_194_304)?;
     assert_eq!(rt; refused(&rt, &words, &paint)?, Status::Limit { which });
     paint.push(b'\n')?;
     assert_eq!(rt; refused(&rt, &words, &paint)?, Status::TooLarge { file: 0 });
-    let paint = cuts(alloc, 65_537)?;
+    let paint = repeated(alloc, "cut\n", 65_537)?;
     assert_eq!(rt;
         refused(&rt, &words, &paint)?,
         Status::Limit { which: more }
@@ -188,18 +255,22 @@ fn a_report_that_fails(rt: HostRuntime) -> Result<(), Fail> {
 }
 
 #[test]
-fn commands_that_are_not_built(rt: HostRuntime) -> Result<(), Fail> {
+fn words_that_are_not_served(rt: HostRuntime) -> Result<(), Fail> {
     let alloc = rt.alloc();
     let mut shelf = CalmShelf::new(alloc)?;
     let mut report = MemorySink::new(alloc, &[])?;
     let form = Form::Command;
-    let words = ["record", "32x32", "64", "0", "0", "o", "f"];
-    let record = run(&rt, alloc, &words, &mut shelf, &mut report, &NoGate);
-    assert_eq!(rt; record.status, Status::NotBuilt { form });
-    let demo = run_demo(alloc, &["demo", "18446744073709551615"], &mut report);
-    assert_eq!(rt; demo.status, Status::NotBuilt { form });
-    let other = run_demo(alloc, &["serial"], &mut report);
-    assert_eq!(rt; other.status, Status::Usage);
+    let words = ["decode", "i", "o"];
+    let decode = run(&rt, alloc, &words, &mut shelf, &mut report, &NoGate);
+    assert_eq!(rt; decode.status, Status::NotBuilt { form });
+    for words in [
+        ["serial", "0"],
+        ["demo", "18446744073709551616"],
+        ["demo", "00"],
+    ] {
+        let other = run_demo(alloc, &words, &mut report);
+        assert_eq!(rt; other.status, Status::Usage);
+    }
     Ok(())
 }
 

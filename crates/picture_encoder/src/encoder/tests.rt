@@ -2,12 +2,16 @@
 ghost use Rattle.std.specs.Prelude.{◌≡◌, ◌<◌, ◌≤◌, ◌*◌, ◌-◌, ◌^◌, IsTrue, length};
 ghost use Rattle.std.specs.List.{All};
 ghost use Rattle.h265_model.specs.Desk.{tile_count};
+ghost use Rattle.px_plane.specs.Tiles.{IsJobOf};
 
 use super::Encoder;
+use edges::NoGate;
 use h265_model::{Bytes, NoMemory, Numbers};
 use px_plane::{Job, Size};
 use std::alloc::Global;
+use std::sync::Wait;
 use std::test::Fail;
+use std::thread::Threads;
 
 // For each cut, the tiles of its job, each with the number of a pattern.
 type Cuts = [&'static [(u8, u8)]; 4];
@@ -227,27 +231,51 @@ fn mark(bytes: &[u8]) -> (usize, u32) {
     (bytes.len(), digest)
 }
 
+// The next piece, with its rows coded by so many workers, or on the caller's thread for none.
+fn next_piece<R: Threads + Wait + Sync>(
+    rt: &R,
+    encoder: &mut Encoder,
+    job: &Job,
+    workers: u32,
+) -> Result<Vec<u8>, NoMemory>
+    requires job { IsJobOf encoder.old.settings.size job.now }
+    requires number { job.now.number ≡ encoder.old.count }
+    requires few { encoder.old.count < 2 ^ 32 - 1 }
+    requires workers { workers ≤ 64 }
+{
+    if workers == 0 {
+        return encoder.next_alone(job);
+    }
+    encoder.next(rt, job, workers, &NoGate)
+}
+
+// How many workers code the rows; none is the caller's thread.
+const WORKERS: [u32; 4] = [0, 1, 2, 64];
+
 #[test]
 fn pictures_of_small_desktops(rt: HostRuntime) -> Result<(), Fail> {
     for case in CASES {
         let size = Size::new(case.w, case.h).ok_or("size")?;
         assert!(rt; case.effort <= 2);
-        let mut encoder = Encoder::new(rt.alloc(), size, case.effort, case.key)?;
-        assert_eq!(rt; mark(&encoder.first()?), case.first);
-        for number in 0..4u32 {
-            let (list, want) = (case.cuts[number as usize], case.pieces[number as usize]);
-            let job = job(rt.alloc(), size, number, list)?;
-            assert!(rt; is_next(&encoder, &job));
-            let piece = encoder.next_alone(&job)?;
-            assert_eq!(rt;
-                mark(&piece),
-                want,
-                "{}x{}, effort {}, key {}, picture {number}",
-                case.w,
-                case.h,
-                case.effort,
-                case.key
-            );
+        for workers in WORKERS {
+            assert!(rt; workers <= 64);
+            let mut encoder = Encoder::new(rt.alloc(), size, case.effort, case.key)?;
+            assert_eq!(rt; mark(&encoder.first()?), case.first);
+            for number in 0..4u32 {
+                let (list, want) = (case.cuts[number as usize], case.pieces[number as usize]);
+                let job = job(rt.alloc(), size, number, list)?;
+                assert!(rt; is_next(&encoder, &job));
+                let piece = next_piece(&rt, &mut encoder, &job, workers)?;
+                assert_eq!(rt;
+                    mark(&piece),
+                    want,
+                    "{}x{}, effort {}, key {}, picture {number}, {workers} workers",
+                    case.w,
+                    case.h,
+                    case.effort,
+                    case.key
+                );
+            }
         }
     }
     Ok(())

@@ -1,7 +1,7 @@
 use Rattle.std.proofs.Common.{refl, ◌∙◌, ap, Option, Some, List, ℕ, arith}
 use Rattle.row_core.specs.Plan.{Plan}
 use Rattle.row_workers.proofs.alone.code_units.Goals as goal
-use Rattle.row_workers.proofs.alone.code_units.Goals.{then-unit-eq1, else-unit-eq1}
+use Rattle.row_workers.proofs.alone.code_units.Goals.{then-unit-eq-SHOWN, else-unit-eq-SHOWN}
 
 pub loop-unit-init : goal.loop-unit-init
 loop-unit-init g c = record {
@@ -29,16 +29,16 @@ loop-unit-preserved g c = record {
   inherits = c.in_ok-code_next.ensures.inherited ∙ c.loop-unit.invariant.inherits;
   plan = c.in_ok-code_next.ensures.plan ∙ c.loop-unit.invariant.plan;
   coded = (let before = c.loop-unit.invariant.coded in let after = c.in_ok-code_next.ensures.coded in omega arith);
-  some = elim c.if-unit-eq1.branch [
-    | then-unit-eq1 w ↦ λ two. w.second-is ∙ ap (λ (l : List ℕ). Some l)
-        (w.contexts.ensures (let before = c.loop-unit.invariant.coded in let after = c.in_ok-code_next.ensures.coded in let one = w.if-unit-eq1 in omega arith)
+  some = elim c.if-unit-eq-SHOWN.branch [
+    | then-unit-eq-SHOWN w ↦ λ two. w.second-is ∙ ap (λ (l : List ℕ). Some l)
+        (w.contexts.ensures (let before = c.loop-unit.invariant.coded in let after = c.in_ok-code_next.ensures.coded in let one = w.if-unit-eq-SHOWN in omega arith)
         ∙ ap (λ (p : Plan). p.second (g.J.RowJob.inherits c.code_next.new.self)) (c.in_ok-code_next.ensures.plan ∙ c.loop-unit.invariant.plan)
         ∙ ap (λ (i : Option (List ℕ)). (g.J.RowJob.plan c.args.job.now).second i) (c.in_ok-code_next.ensures.inherited ∙ c.loop-unit.invariant.inherits))
-    | else-unit-eq1 w ↦ λ two. w.second-is ∙ c.loop-unit.invariant.some (let other = w.if-unit-eq1 in omega arith)
+    | else-unit-eq-SHOWN w ↦ λ two. w.second-is ∙ c.loop-unit.invariant.some (let other = w.if-unit-eq-SHOWN in omega arith)
   ];
-  none = elim c.if-unit-eq1.branch [
-    | then-unit-eq1 w ↦ λ few. absurd (let one = w.if-unit-eq1 in omega arith)
-    | else-unit-eq1 w ↦ λ few. w.second-is ∙ c.loop-unit.invariant.none (omega arith)
+  none = elim c.if-unit-eq-SHOWN.branch [
+    | then-unit-eq-SHOWN w ↦ λ few. absurd (let one = w.if-unit-eq-SHOWN in omega arith)
+    | else-unit-eq-SHOWN w ↦ λ few. w.second-is ∙ c.loop-unit.invariant.none (omega arith)
   ];
 }
 

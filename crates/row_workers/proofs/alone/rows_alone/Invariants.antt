@@ -1,6 +1,6 @@
 use Rattle.std.proofs.Common.{◌≡◌, ℕ, map, length, ◌++◌}
 use Rattle.std.specs.Vec.Iter.{into_iter_items, into_iter_len}
-use Rattle.row_workers.specs.Rows.{HaveWidth}
+use Rattle.row_core.specs.Plans.{HaveWidth}
 use Rattle.row_workers.proofs.InOrder.{AreDone}
 use Rattle.row_workers.proofs.alone.rows_alone.Given as goal
 

@@ -1,14 +1,5 @@
-use Rattle.std.proofs.Common.{◌≡◌, false, refl}
-use Rattle.h265_model.specs.declared.line.Line.{Line}
-use Rattle.h265_model.specs.declared.line.Line.TheVariants.{Fill, Blit, Cut}
-use Rattle.h265_model.specs.Script.{is_cut}
-use Rattle.screenrec.proofs.StoredLaws.{paint_adds, paint_continues, paint_counts, told_cut, cut_counts}
+use Rattle.screenrec.proofs.StoredLaws.{paints, paint_adds, paint_continues, paint_counts, told_cut, cut_counts}
 use Rattle.screenrec.proofs.stream_file.play_line.Goals as goal
-
-paints : (line : Line) → (line ≡ Cut → ⊥) → is_cut line ≡ false
-paints (Fill r c) not_cut = refl
-paints (Blit r pixels) not_cut = refl
-paints Cut not_cut = absurd (not_cut refl)
 
 pub returns-in-Cut-clause-counted : goal.returns-in-Cut-clause-counted
 returns-in-Cut-clause-counted g c = λ settings done is.

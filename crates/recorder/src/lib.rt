@@ -1,0 +1,14 @@
+//! Clients that play their scripts at one desk, and the recorder beside them that codes the cut pictures.
+#![tactic(auto)]
+
+mod clients;
+mod record;
+mod session;
+
+pub use clients::play_all;
+pub use h265_model::{Entry, NoMemory};
+pub use record::{RecordEnd, record_all};
+pub use session::{Recording, Session};
+
+#[cfg(test)]
+mod tests;

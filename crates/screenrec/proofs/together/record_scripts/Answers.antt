@@ -1,0 +1,30 @@
+use Rattle.std.proofs.Common.{List, sym, subst}
+use Rattle.h265_model.specs.declared.line.Line.{Line}
+use Rattle.edges.specs.Sunk.{is_made}
+use Rattle.recorder.specs.Sessions.{IsOrder}
+use Rattle.screenrec.specs.Served.{record_view}
+use Rattle.screenrec.proofs.TogetherLaws.{few_in_all, short_order, recorded_files}
+use Rattle.screenrec.proofs.together.record_scripts.Goals as goal
+
+pub new-requires-clause-few : goal.new-requires-clause-few
+new-requires-clause-few g c = few_in_all c.args.scripts c.requires.few
+
+pub record_into-recording-requires-clause-there : goal.record_into-recording-requires-clause-there
+record_into-recording-requires-clause-there g c κs within =
+    is_made (g.F.Shelf.files c.args.shelf.now) (g.F.Shelf.files c.create.new.self) c.args.words.now.out.now c.in_default-create.ensures.files
+
+pub finish-requires : goal.finish-requires
+finish-requires g c = record {
+  short = short_order c.args.scripts c.record_into-recording.result.order.items c.record_into-recording.result.lost c.record_into-recording.result.end c.requires.few
+      (subst (λ (l : List (List Line)). IsOrder l c.record_into-recording.result.order.items c.record_into-recording.result.lost c.record_into-recording.result.end)
+      c.in-Ok.ensures.scripts c.record_into-recording.ensures.order);
+}
+
+pub returns-clause-files : goal.returns-clause-files
+returns-clause-files g c =
+    recorded_files (record_view c.args.words.now) c.args.scripts c.record_into-recording.result.order.items c.finish.result.order c.finish.result.written
+    c.in-Ok.session.settings c.in-Ok.session.scripts (g.F.Shelf.files c.args.shelf.now) (g.F.Shelf.files c.create.new.self) (g.F.Shelf.files c.record_into-recording.new.shelf)
+    c.record_into-recording.result.lost c.record_into-recording.result.end c.finish.result.status
+    c.in-Ok.ensures.settings c.in-Ok.ensures.scripts (c.w-width.ensures.within, c.requires.within.0.0) c.requires.spellable
+    c.finish.ensures.order c.finish.ensures.written c.record_into-recording.ensures.order c.finish.ensures.status
+    c.in_default-create.ensures.files c.record_into-recording.ensures.files
