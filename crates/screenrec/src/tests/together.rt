@@ -138,12 +138,12 @@ fn add_line(merged: &mut Script, script: &Script, index: u32) -> Result<(), Fail
 
 // The text of one script of the lines in the order in which they were accepted.
 fn merged(alloc: Global, first: &[u8], second: &[u8], order: &[Entry]) -> Result<Vec<u8>, Fail> {
+    if first.len().max(second.len()).max(order.len()) > 1000 {
+        return Err(Fail::from("too long"));
+    }
     let first = read_script(alloc, first)?;
     let second = read_script(alloc, second)?;
     let mut merged = Script::empty(alloc);
-    if order.len() > 1000 {
-        return Err(Fail::from("too many entries"));
-    }
     for entry in order {
         match *entry {
             Entry::Line { client: 0, index } => add_line(&mut merged, &first, index)?,
