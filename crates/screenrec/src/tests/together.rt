@@ -138,13 +138,16 @@ fn add_line(merged: &mut Script, script: &Script, index: u32) -> Result<(), Fail
 
 // The text of one script of the lines in the order in which they were accepted.
 fn merged(alloc: Global, first: &[u8], second: &[u8], order: &[Entry]) -> Result<Vec<u8>, Fail> {
-    if first.len().max(second.len()).max(order.len()) > 1000 {
+    if first.len().max(second.len()) > 1000 {
         return Err(Fail::from("too long"));
     }
     let first = read_script(alloc, first)?;
     let second = read_script(alloc, second)?;
     let mut merged = Script::empty(alloc);
     for entry in order {
+        if merged.lines() > 1000 {
+            return Err(Fail::from("too many lines"));
+        }
         match *entry {
             Entry::Line { client: 0, index } => add_line(&mut merged, &first, index)?,
             Entry::Line { index, .. } => add_line(&mut merged, &second, index)?,
