@@ -178,3 +178,32 @@ fn many_runs(rt: HostRuntime) -> Result<(), Fail> {
     );
     Ok(())
 }
+
+// The contexts of an I slice after some bins, from the independent model.
+#[test]
+fn contexts_follow_bins(rt: HostRuntime) -> Result<(), Fail> {
+    let mut coder = ByteCoder::new(rt.alloc(), Contexts::start(SliceKind::I));
+    for (n, value) in [
+        (0u32, true),
+        (0, true),
+        (1, false),
+        (5, true),
+        (0, false),
+        (60, true),
+        (60, false),
+        (60, false),
+    ] {
+        assert!(rt; n < 130);
+        coder.bin(Bin {
+            value,
+            place: Place::Context(n),
+        })?;
+    }
+    coder.bypass(5, 3)?;
+    let contexts = coder.contexts();
+    for (n, state) in [(0, 3u8), (1, 2), (2, 31), (5, 3), (60, 16)] {
+        assert!(rt; n < 130);
+        assert_eq!(rt; contexts.get(n), state, "context {n}");
+    }
+    Ok(())
+}
