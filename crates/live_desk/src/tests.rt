@@ -97,3 +97,39 @@ fn a_desk_answers_its_passes(rt: HostRuntime) -> Result<(), Fail> {
     assert!(rt; history.as_slice() == expected.as_slice());
     Ok(())
 }
+
+// One client that cuts, paints and cuts.
+fn two_cuts(alloc: Global) -> Result<Scripts, NoMemory>
+    ensures few { IfOk result (λ scripts. most_entries scripts < 2 ^ 32 - 1) }
+{
+    let mut script = Script::empty(alloc);
+    script.add(Line::Cut)?;
+    script.add(line_of(0, 0))?;
+    script.add(Line::Cut)?;
+    Scripts::one(alloc, script)
+}
+
+// Where the last cut finds no memory, the client is stopped and marks the desk: the recorder takes what was cut before, and meets the end. There is memory unless
+// it is refused from outside, as by `rt try --test --fail-alloc N`.
+#[test]
+fn a_cut_without_memory_ends_the_desk(rt: HostRuntime) -> Result<(), Fail> {
+    let size = Size::new(96, 64).ok_or("no size")?;
+    let scripts = two_cuts(rt.alloc())?;
+    let (desk, mut clients, mut recorder) = Desk::new(rt.alloc(), size, scripts)?;
+    let mut client = clients.pop().expect(&rt, "one pass");
+    desk.play(&rt, &mut client)?;
+    desk.play(&rt, &mut client)?;
+    if desk.play(&rt, &mut client).is_ok() {
+        assert!(rt; !client.is_stopped() && client.next() == 3);
+        return Ok(());
+    }
+    assert!(rt; client.is_stopped() && client.next() == 2);
+    desk.mark_lost(&rt, &mut client);
+    let Taken::Job(_) = desk.take(&rt, &mut recorder) else {
+        panic!(rt; "a picture was cut")
+    };
+    let Taken::Ended { seen: 3 } = desk.take(&rt, &mut recorder) else {
+        panic!(rt; "the desk has ended")
+    };
+    Ok(())
+}
