@@ -15,6 +15,7 @@ use row_core::{Contexts, RowJob};
 use std::alloc::Global;
 use std::marker::Model;
 use std::snapshot::Snapshot;
+use std::sync::Wait;
 
 /// A worker's place at a board. Contracts see its board and what it knows.
 #[derive(Drop)]
@@ -123,7 +124,7 @@ impl<J: RowJob> Board<J> {
         Some((Row::new(old as u32), job))
     }
 
-    /// Shows the contexts of a row to the row below: those after its second unit.
+    /// Shows the contexts of a row to the row below: those after its second unit. Wakes the worker that waits for them.
     pub fn publish(&self, seat: &mut RowSeat<J>, row: &Row, contexts: Contexts)
         requires board { seat.old.table ≡ self.now }
         requires mine { HasOpen seat.old.knows row.now }
@@ -138,17 +139,20 @@ impl<J: RowJob> Board<J> {
         shared.load::<PickUp>(&mut seat.seat, slot + 1);
         shared.exchange(&mut seat.seat, slot, Piece::Shown(contexts));
         shared.store::<Publish>(&mut seat.seat, slot + 1, 1);
+        shared.wake_one(slot + 1);
     }
 
-    /// Says that a row will show no contexts.
+    /// Says that a row will show no contexts. Wakes the worker that waits for them.
     pub fn lose(&self, seat: &mut RowSeat<J>, row: &Row)
         requires board { seat.old.table ≡ self.now }
         requires mine { HasOpen seat.old.knows row.now }
         ensures board { seat.new.table ≡ seat.old.table }
         ensures lost { seat.new.knows ≡ has_lost seat.old.knows row.now }
     {
+        let shared = &self.table.shared;
         let slot = row.number() as usize;
-        self.table.shared.store::<Lose>(&mut seat.seat, slot + 1, 3);
+        shared.store::<Lose>(&mut seat.seat, slot + 1, 3);
+        shared.wake_one(slot + 1);
     }
 
     /// Takes the contexts that the row above shows.
@@ -180,6 +184,18 @@ impl<J: RowJob> Board<J> {
             unreachable!()
         };
         Ok(contexts)
+    }
+
+    /// Sleeps while the word of the row above is 0: until `publish` or `lose` of that row wakes it. It may also return for no reason.
+    ///
+    /// It changes nothing, and tells nothing: `try_sync` does. The seat stands here for the contract alone: what it claimed is a row of this board.
+    pub fn wait_above(&self, rt: &impl Wait, seat: &RowSeat<J>, row: &Row)
+        requires board { seat.now.table ≡ self.now }
+        requires below { 0 < row.now }
+        requires mine { HasUnsynced seat.now.knows row.now }
+    {
+        let _held = &seat.seat;
+        self.table.shared.park(rt, row.number() as usize, 0);
     }
 
     /// Makes two seats of one: the first keeps what it claimed, the second has claimed nothing.

@@ -131,7 +131,7 @@ fn wait_for_above<J: RowJob>(
         match board.try_sync(seat, row) {
             Ok(contexts) => return Some(contexts),
             Err(SyncError::Lost { word: _ }) => return None,
-            Err(SyncError::NotYet { word: _ }) => (),
+            Err(SyncError::NotYet { word: _ }) => board.wait_above(rt, seat, row),
         }
     }
     unreachable!()

@@ -33,7 +33,7 @@ struct Worker<J> {
     failed: bool,
 }
 
-// Waits until the row above shows its contexts, and takes them. `NoMemory` where that row is lost.
+// Waits until the row above shows its contexts, and takes them. `NoMemory` where that row is lost. After some pauses it sleeps.
 fn wait_for_above<J: RowJob>(
     rt: &impl Wait,
     board: &Board<J>,
@@ -54,6 +54,9 @@ fn wait_for_above<J: RowJob>(
         match board.try_sync(seat, row) {
             Ok(contexts) => return Ok(contexts),
             Err(SyncError::Lost { word: _ }) => return Err(NoMemory),
+            Err(SyncError::NotYet { word: _ }) if backoff.is_completed() => {
+                board.wait_above(rt, seat, row)
+            }
             Err(SyncError::NotYet { word: _ }) => backoff.snooze(),
         }
     }

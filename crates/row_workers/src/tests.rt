@@ -122,6 +122,28 @@ impl Gate for UntilTaken {
     }
 }
 
+// How many turns a gate dawdles: many more than a worker's pauses take.
+const DAWDLE: u32 = 1_000_000;
+
+// Dawdles where row 1 took its contexts, so that the worker of row 2 falls asleep.
+#[derive(Drop)]
+struct Slow;
+
+impl Gate for Slow {
+    fn line_played(&self, _client: u32, _index: u32) {}
+
+    fn row_published(&self, _row: u32) {}
+
+    fn row_taken(&self, row: u32) {
+        if row != 1 {
+            return;
+        }
+        for _ in 0..DAWDLE {
+            hint::spin_loop();
+        }
+    }
+}
+
 // A job that wasn't begun, and what finds memory for so many units.
 fn job(alloc: Global, more: u8, stops: u32, inherited: Option<Contexts>) -> Steps
     ensures more { result.more ≡ more }
@@ -203,6 +225,17 @@ fn rows_run_beside_each_other(rt: HostRuntime) -> Result<(), Fail> {
     assert!(rt; gate.gave_up.load(Ordering::SeqCst) == 0);
     assert_eq!(rt; rows.len(), 3);
     assert_eq!(rt; rows[2].as_slice(), [5].as_slice());
+    Ok(())
+}
+
+// A worker that fell asleep is woken by the row above, also where that one is lost.
+#[test]
+fn a_sleeper_is_woken(rt: HostRuntime) -> Result<(), Fail> {
+    let rows = three_rows_at_once(&rt, rt.alloc(), 2, u32::MAX, 3, &Slow)?;
+    assert_eq!(rt; rows.len(), 3);
+    assert_eq!(rt; rows[2].as_slice(), [5].as_slice());
+    let lost = three_rows_at_once(&rt, rt.alloc(), 2, 1, 3, &Slow);
+    assert!(rt; lost.is_err());
     Ok(())
 }
 

@@ -62,6 +62,18 @@ store-requires g c =
           (λ p. let took = c.requires.synced (let e = at in omega arith) in ap (λ (x : Claimed). x.synced) (same_claim c.requires.mine.0 took.0 (sym c.requires.mine.1 ∙ took.1)) ∙ took.2),
     )
 
+pub wake_one-requires : goal.wake_one-requires
+wake_one-requires g c =
+    let table : c.seat.inside.seat.table_id ≡ c.self.inside.table.shared.table_id = search rules in
+    let knows = ap (λ p. p.knows) c.seat.view_is in
+    let e = ap (λ z. z.slots) table in
+    let f = c.self.invariant.0 in
+    let at : c.number-slot.result ≡ c.args.row.now = c.number-slot.ensures in
+    let r = c.number-slot.result in
+    let mine : claim_of r c.seat.inside.seat.me.0.rows ≡ Some c.requires.mine.0 = ap (λ v. claim_of r v.rows) knows ∙ (ap (λ q. claim_of q c.args.seat.now.knows.rows) at ∙ c.requires.mine.1) in
+    let below = inside-claim c.seat.inside.seat.table_id.slots r c.requires.mine.0 c.seat.inside.seat.me.0.rows mine c.seat.invariant.inside in
+    omega arith
+
 pub invariant_of-seat : goal.invariant_of-seat
 invariant_of-seat g c =
     let got = c.load.ensures.2 c.number-slot.result refl in
