@@ -1,8 +1,8 @@
 -- One more coding tree unit of a row, and its end.
 use Rattle.std.proofs.Common.{◌≡◌, refl, sym, ◌∙◌, ap, subst, ℕ, zero, suc, ◌+◌, ◌*◌, ◌<◌, ◌≤◌, List, [], ◌∷◌, ◌++◌, Bool, true, false, length, take, get_or, append_assoc, append-nil, arith, ⊎_elim}
-use Rattle.std.specs.Prelude.{◌==◌, Option, Some, None}
+use Rattle.std.specs.Prelude.{◌==◌, if◌then◌else◌, Option, Some, None}
 use Rattle.std.proofs.lemmas.Bool.{eqb-true, eqb-false, eq-eqb, cond-true, cond-false, cases_lt}
-use Rattle.std.specs.List.{flat_map}
+use Rattle.std.specs.List.{AllByRecursion, flat_map}
 use Rattle.std.proofs.lemmas.Grind.{flat_map-append}
 use Rattle.std.proofs.lemmas.Nat.{mul-le}
 use Rattle.h265_model.specs.declared.Item.{Item}
@@ -17,11 +17,11 @@ use Rattle.arrayvec.specs.ArrayVec.{ArrayVec}
 use Rattle.px_plane.specs.Planes.{Planes, picture_of}
 use Rattle.bin_items.specs.Growth.{Grew, IsOpen, Meaning}
 use Rattle.bin_items.proofs.Growing.{open_as}
-use Rattle.pu_code.specs.Cells.{Cells, StandsFor}
+use Rattle.pu_code.specs.Cells.{Cells, StandsFor, IsUnit}
 use Rattle.cabac_bytes.specs.State.{State, stands_for, phase_of}
 use Rattle.h265_laws.proofs.RowLaw.{joined_take}
 use Rattle.row_coder.specs.Sources.{picture_source}
-use Rattle.row_coder.specs.Rows.{IsCoded, IsUnderWay, coded_of, leaves_of, first_ctus, flagged_ctu, whole_row, first_contexts}
+use Rattle.row_coder.specs.Rows.{IsKept, IsCoded, IsUnderWay, coded_of, leaves_of, first_ctus, flagged_ctu, whole_row, first_contexts}
 use Rattle.row_coder.proofs.Differences.{below_next}
 
 pub no_ctus : (kind : SliceKind) (size : Size) (source : Source) (above : List Leaf) (plans : List (List Leaf)) (row : ℕ) → first_ctus kind size source above plans row 0 ≡ []
@@ -89,38 +89,50 @@ module _ (planes : Planes) (kind : SliceKind) (number : ℕ) (above : List Leaf)
   open_if n true e more = absurd (let k = eqb-true _ _ (sym e) in omega arith)
 
   -- one more unit is coded
-  pub coded_more : (grid next : Cells) (coder mid new : State) (n ctu : ℕ) (leaves : List Leaf) (last : Bool) → n < ctus planes.size.w → ctu ≡ number * ctus planes.size.w + n
+  pub coded_more : (grid : Option Cells) (used next : Cells) (coder mid new : State) (n ctu : ℕ) (leaves : List Leaf) (last : Bool) → n < ctus planes.size.w → ctu ≡ number * ctus planes.size.w + n
       → leaves ≡ get_or plans n [] → last ≡ is_last planes.size ctu → IsCoded planes kind number above plans inherited grid coder n
-      → ((before : List Leaf) → StandsFor grid before → Grew (ctu_items kind planes.size source before leaves ctu) (stands_for coder) (stands_for mid))
+      → IsKept planes.size (above ++ joined (take n plans)) n (Some used) → next.size ≡ used.size
+      → ((before : List Leaf) → StandsFor used before → Grew (ctu_items kind planes.size source before leaves ctu) (stands_for coder) (stands_for mid))
       → Grew (terminate_bin last ∷ []) (stands_for mid) (stands_for new)
       → phase_of new ≡ phase_after Terminate last
-      → ((before : List Leaf) → StandsFor grid before → StandsFor next (before ++ leaves))
-      → IsCoded planes kind number above plans inherited next new (n + 1)
-  coded_more grid next coder mid new n ctu leaves last less place here is so taken flag phase set =
+      → ((before : List Leaf) → StandsFor used before → StandsFor next (before ++ leaves))
+      → IsCoded planes kind number above plans inherited (Some next) new (n + 1)
+  coded_more grid used next coder mid new n ctu leaves last less place here is so kept size taken flag phase set =
       let at : last ≡ is_last planes.size (number * ctus planes.size.w + n) = is ∙ ap (is_last planes.size) place in
       let before : List Leaf = above ++ joined (take n plans) in
       let list : List Item = ctu_items kind planes.size source before leaves ctu in
       record {
         within = omega arith;
-        grid_is = subst (StandsFor next) (one_leaf_list n leaves here) (set before so.grid_is);
-        coder_is = subst (λ (l : List Item). stands_for new l first) (one_list n ctu leaves last here place is) (flag.from (so_far n ++ list) first ((taken before so.grid_is).from (so_far n) first so.coder_is));
+        units = so.units;
+        kept = (size ∙ kept.0, subst (StandsFor next) (one_leaf_list n leaves here) (set before kept.1));
+        coder_is = subst (λ (l : List Item). stands_for new l first) (one_list n ctu leaves last here place is) (flag.from (so_far n ++ list) first ((taken before kept.1).from (so_far n) first so.coder_is));
         is_open = λ more. open_as (phase_of new) (phase_after Terminate last) phase (open_if n last at more);
         ended = λ all. phase ∙ ap (phase_after Terminate) (at ∙ eq-eqb _ _ (let a = all in omega arith));
       }
 
+  -- the grid for the next unit: the one that was kept, or else one of the row above
+  pub kept_for : (kept : Option Cells) (grid : Cells) (n : ℕ) → IsKept planes.size (above ++ joined (take n plans)) n kept → (kept ≡ None → (grid.size ≡ planes.size) × StandsFor grid above)
+      → ((before : Cells) → kept ≡ Some before → grid ≡ before) → IsKept planes.size (above ++ joined (take n plans)) n (Some grid)
+  kept_for None grid n so made same =
+      let new = made refl in
+      (new.0, subst (StandsFor grid) (sym (append-nil above) ∙ ap (λ (k : ℕ). above ++ joined (take k plans)) (sym so)) new.1)
+  kept_for (Some before) grid n so made same = subst (λ (g : Cells). IsKept planes.size (above ++ joined (take n plans)) n (Some g)) (sym (same before refl)) so
+
   -- nothing is coded yet
-  pub coded_none : (grid : Cells) (coder : State) → 0 < ctus planes.size.w → number < ctus planes.size.h → StandsFor grid above → stands_for coder [] first → IsOpen (phase_of coder)
+  pub coded_none : (grid : Option Cells) (coder : State) → 0 < ctus planes.size.w → number < ctus planes.size.h → AllByRecursion (IsUnit planes.size) above
+      → IsKept planes.size (above ++ joined (take 0 plans)) 0 grid → stands_for coder [] first → IsOpen (phase_of coder)
       → IsCoded planes kind number above plans inherited grid coder 0
-  coded_none grid coder some less at from open_now = record {
+  coded_none grid coder some less units kept from open_now = record {
     within = omega arith;
-    grid_is = subst (StandsFor grid) (sym (append-nil above)) at;
+    units = units;
+    kept = kept;
     coder_is = subst (λ (l : List Item). stands_for coder l first) (sym (no_ctus kind planes.size source above plans number)) from;
     is_open = λ more. open_now;
     ended = λ all. absurd (let k : number * ctus planes.size.w + 0 < ctus planes.size.w * ctus planes.size.h = in_picture number 0 (ctus planes.size.w) (ctus planes.size.h) less some in omega arith);
   }
 
   -- the end of a row that isn't the last
-  pub row_ended : (grid : Cells) (coder new : State) (n : ℕ) (bytes : List ℕ) → n ≡ ctus planes.size.w → IsCoded planes kind number above plans inherited grid coder n → (number + 1 == ctus planes.size.h) ≡ false
+  pub row_ended : (grid : Option Cells) (coder new : State) (n : ℕ) (bytes : List ℕ) → n ≡ ctus planes.size.w → IsCoded planes kind number above plans inherited grid coder n → (number + 1 == ctus planes.size.h) ≡ false
       → Grew (terminate_bin true ∷ []) (stands_for coder) (stands_for new) → ((list : List Item) (contexts : List ℕ) → stands_for new list contexts → bytes ≡ code list contexts)
       → bytes ≡ code (whole_row kind planes.size source above plans number) first
   row_ended grid coder new n bytes all so more flag f =
@@ -129,7 +141,7 @@ module _ (planes : Planes) (kind : SliceKind) (number : ℕ) (above : List Leaf)
       ∙ ap (λ (l : List Item). so_far (ctus planes.size.w) ++ l) (sym (cond-false (number + 1 == ctus planes.size.h) _ _ more)))
 
   -- the end of the last row
-  pub slice_ended : (grid : Cells) (coder : State) (n : ℕ) (bytes : List ℕ) → n ≡ ctus planes.size.w → IsCoded planes kind number above plans inherited grid coder n → (number + 1 == ctus planes.size.h) ≡ true
+  pub slice_ended : (grid : Option Cells) (coder : State) (n : ℕ) (bytes : List ℕ) → n ≡ ctus planes.size.w → IsCoded planes kind number above plans inherited grid coder n → (number + 1 == ctus planes.size.h) ≡ true
       → ((list : List Item) (contexts : List ℕ) → stands_for coder list contexts → bytes ≡ code list contexts)
       → bytes ≡ code (whole_row kind planes.size source above plans number) first
   slice_ended grid coder n bytes all so last f =
@@ -138,7 +150,7 @@ module _ (planes : Planes) (kind : SliceKind) (number : ℕ) (above : List Leaf)
       ∙ (sym (append-nil (so_far (ctus planes.size.w))) ∙ ap (λ (l : List Item). so_far (ctus planes.size.w) ++ l) (sym (cond-true (number + 1 == ctus planes.size.h) _ _ last))))
 
   -- the phase at the end of a row
-  pub last_phase : (grid : Cells) (coder : State) (n : ℕ) → n ≡ ctus planes.size.w → IsCoded planes kind number above plans inherited grid coder n → (number + 1 == ctus planes.size.h) ≡ true → phase_of coder ≡ Ended
+  pub last_phase : (grid : Option Cells) (coder : State) (n : ℕ) → n ≡ ctus planes.size.w → IsCoded planes kind number above plans inherited grid coder n → (number + 1 == ctus planes.size.h) ≡ true → phase_of coder ≡ Ended
   last_phase grid coder n all so last =
       let h : number + 1 ≡ ctus planes.size.h = eqb-true _ _ last in
       so.ended (whole n (ctus planes.size.w) (ctus planes.size.h) all h)
@@ -146,7 +158,7 @@ module _ (planes : Planes) (kind : SliceKind) (number : ℕ) (above : List Leaf)
       whole : (n w h : ℕ) → n ≡ w → number + 1 ≡ h → number * w + n ≡ w * h
       whole n w h a b = rw (a, ← b) (omega arith)
 
-  pub open_phase : (grid : Cells) (coder : State) (n : ℕ) → 0 < ctus planes.size.w → number < ctus planes.size.h → n ≡ ctus planes.size.w → IsCoded planes kind number above plans inherited grid coder n
+  pub open_phase : (grid : Option Cells) (coder : State) (n : ℕ) → 0 < ctus planes.size.w → number < ctus planes.size.h → n ≡ ctus planes.size.w → IsCoded planes kind number above plans inherited grid coder n
       → (number + 1 == ctus planes.size.h) ≡ false → IsOpen (phase_of coder)
   open_phase grid coder n some less all so more =
       let ne = eqb-false _ _ more in
@@ -158,33 +170,43 @@ module _ (planes : Planes) (kind : SliceKind) (number : ℕ) (above : List Leaf)
       strict a b h f = ⊎_elim (λ k. k) (λ k. absurd (f (omega arith))) (cases_lt a b)
 
   -- contexts after the second unit
-  pub second_contexts : (grid : Cells) (coder : State) (o : Option ℕ) (contexts : List ℕ) → IsUnderWay planes kind number above plans inherited grid coder o → coded_of o ≡ 2
+  pub second_contexts : (grid : Option Cells) (coder : State) (o : Option ℕ) (contexts : List ℕ) → IsUnderWay planes kind number above plans inherited grid coder o → coded_of o ≡ 2
       → ((list : List Item) (from : List ℕ) → stands_for coder list from → contexts ≡ contexts_after list from) → contexts ≡ contexts_after (so_far 2) first
   second_contexts grid coder None contexts so two f = absurd (omega arith)
   second_contexts grid coder (Some n) contexts so two f = f (so_far 2) first (subst (λ (k : ℕ). stands_for coder (so_far k) first) two so.coder_is)
 
   -- all units
-  pub all_coded : (grid : Cells) (coder : State) (o : Option ℕ) → IsUnderWay planes kind number above plans inherited grid coder o → coded_of o ≡ ctus planes.size.w → ctus planes.size.w ≤ 128
+  pub all_coded : (grid : Option Cells) (coder : State) (o : Option ℕ) → IsUnderWay planes kind number above plans inherited grid coder o → coded_of o ≡ ctus planes.size.w → ctus planes.size.w ≤ 128
       → IsCoded planes kind number above plans inherited grid coder (ctus planes.size.w)
   all_coded grid coder None so all few = absurd (omega arith)
   all_coded grid coder (Some n) so all few = subst (λ (k : ℕ). IsCoded planes kind number above plans inherited grid coder k) all so
 
--- leaves of the row above are added to a row of which nothing is coded
-pub above_added : (planes : Planes) (kind : SliceKind) (number : ℕ) (above leaves more : List Leaf) (plans : List (List Leaf)) (inherited : Option (List ℕ)) (grid next : Cells) (coder : State) → 0 < ctus planes.size.w → number < ctus planes.size.h
-    → IsCoded planes kind number above plans inherited grid coder 0 → more ≡ above ++ leaves → ((before : List Leaf) → StandsFor grid before → StandsFor next (before ++ leaves))
-    → IsCoded planes kind number more plans inherited next coder 0
-above_added planes kind number above leaves more plans inherited grid next coder some less so e set =
-    coded_none planes kind number more plans inherited next coder some less
-    (subst (StandsFor next) (sym e) (set above (subst (StandsFor grid) (append-nil above) so.grid_is)))
+all-append : {A : Type 0} (T : A → Type 0) (xs ys : List A) → AllByRecursion T xs → AllByRecursion T ys → AllByRecursion T (xs ++ ys)
+all-append T [] ys all more = more
+all-append T (x ∷ xs) ys all more = (all.0, all-append T xs ys all.1 more)
+
+-- some more were added, or none
+added_all : {A : Type 0} (T : A → Type 0) (xs ys more : List A) (added : Bool) → more ≡ (if added then xs ++ ys else xs) → AllByRecursion T xs → AllByRecursion T ys → AllByRecursion T more
+added_all T xs ys more true e all new = subst (AllByRecursion T) (sym e) (all-append T xs ys all new)
+added_all T xs ys more false e all new = subst (AllByRecursion T) (sym e) all
+
+-- leaves of the row above are added to a row without a grid, or none are
+pub above_added : (planes : Planes) (kind : SliceKind) (number : ℕ) (above leaves more : List Leaf) (added : Bool) (plans : List (List Leaf)) (inherited : Option (List ℕ)) (grid : Option Cells) (coder : State) → 0 < ctus planes.size.w → number < ctus planes.size.h
+    → IsCoded planes kind number above plans inherited grid coder 0 → grid ≡ None → more ≡ (if added then above ++ leaves else above) → AllByRecursion (IsUnit planes.size) leaves
+    → IsCoded planes kind number more plans inherited grid coder 0
+above_added planes kind number above leaves more added plans inherited grid coder some less so bare e units =
+    coded_none planes kind number more plans inherited grid coder some less
+    (added_all (IsUnit planes.size) above leaves more added e so.units units)
+    (subst (λ (g : Option Cells). IsKept planes.size (more ++ joined (take 0 plans)) 0 g) (sym bare) refl)
     (subst (λ (l : List Item). stands_for coder l (first_contexts kind (ctus planes.size.w) number inherited)) (no_ctus kind planes.size (picture_source planes.size (picture_of planes)) above plans number) so.coder_is)
     (so.is_open (in_picture number 0 (ctus planes.size.w) (ctus planes.size.h) less some))
 
 -- a row of which nothing is coded begins with other contexts
-pub begun_with : (planes : Planes) (kind : SliceKind) (number : ℕ) (above : List Leaf) (plans : List (List Leaf)) (old inherited : Option (List ℕ)) (grid : Cells) (coder new : State) → 0 < ctus planes.size.w → number < ctus planes.size.h
+pub begun_with : (planes : Planes) (kind : SliceKind) (number : ℕ) (above : List Leaf) (plans : List (List Leaf)) (old inherited : Option (List ℕ)) (grid : Option Cells) (coder new : State) → 0 < ctus planes.size.w → number < ctus planes.size.h
     → IsCoded planes kind number above plans old grid coder 0 → (contexts : List ℕ) → contexts ≡ first_contexts kind (ctus planes.size.w) number inherited → stands_for new [] contexts → phase_of new ≡ Plain
     → IsCoded planes kind number above plans inherited grid new 0
 begun_with planes kind number above plans old inherited grid coder new some less so contexts e from phase =
-    coded_none planes kind number above plans inherited grid new some less (subst (StandsFor grid) (append-nil above) so.grid_is) (subst (λ (l : List ℕ). stands_for new [] l) e from) (open_as (phase_of new) Plain phase tt)
+    coded_none planes kind number above plans inherited grid new some less so.units so.kept (subst (λ (l : List ℕ). stands_for new [] l) e from) (open_as (phase_of new) Plain phase tt)
 
 -- ---- what a call is asked
 

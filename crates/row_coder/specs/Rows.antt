@@ -1,6 +1,6 @@
 -- A row of coding tree units that is coded.
 use Rattle.std.specs.Prelude.{◌≡◌, ◌<◌, ◌≤◌, ℕ, ◌+◌, ◌*◌, ◌^◌, Bool, false, List, [], ◌∷◌, ◌++◌, length, map, take, get_or, true, ◌==◌, if◌then◌else◌, Option, Some, None}
-use Rattle.std.specs.List.{flat_map}
+use Rattle.std.specs.List.{AllByRecursion, flat_map}
 use Rattle.h265_model.specs.declared.Item.{Item}
 use Rattle.h265_model.specs.declared.leaf.Leaf.{Leaf}
 use Rattle.h265_model.specs.declared.leaf.SliceKind.{SliceKind}
@@ -11,7 +11,7 @@ use Rattle.h265_model.specs.Tree.{Source, ctu_items, is_last, IsLawfulTree, AreA
 use Rattle.px_plane.specs.Planes.{Planes, picture_of}
 use Rattle.arrayvec.specs.ArrayVec.{ArrayVec}
 use Rattle.bin_items.specs.Growth.{IsOpen}
-use Rattle.pu_code.specs.Cells.{Cells, StandsFor}
+use Rattle.pu_code.specs.Cells.{Cells, StandsFor, IsUnit}
 use Rattle.cabac_bytes.specs.State.{State, stands_for, phase_of}
 use Rattle.row_core.specs.Plan.{Plan}
 use Rattle.row_coder.specs.Sources.{picture_source}
@@ -78,25 +78,31 @@ pub record AreAbove (size : Size) (row : ℕ) (plans : List (List Leaf)) : Type 
   pub many : length plans ≡ ctus size.w
   pub tree : (i : ℕ) → i < ctus size.w → IsLawfulTree size (row * ctus size.w + i) (get_or plans i [])
 
+-- what is kept of these leaves, which are those of the row above and of n coding tree units; nothing need be before the first
+abbrev pub IsKept : Size → List Leaf → ℕ → Option Cells → Type 0
+IsKept size leaves n None = n ≡ 0
+IsKept size leaves n (Some grid) = (grid.size ≡ size) × StandsFor grid leaves
+
 -- so many units of a row are coded
-pub record IsCoded (planes : Planes) (kind : SliceKind) (number : ℕ) (above : List Leaf) (plans : List (List Leaf)) (inherited : Option (List ℕ)) (grid : Cells) (coder : State) (n : ℕ) : Type 0 where
+pub record IsCoded (planes : Planes) (kind : SliceKind) (number : ℕ) (above : List Leaf) (plans : List (List Leaf)) (inherited : Option (List ℕ)) (grid : Option Cells) (coder : State) (n : ℕ) : Type 0 where
   pub within : n ≤ ctus planes.size.w
-  pub grid_is : StandsFor grid (above ++ joined (take n plans))
+  pub units : AllByRecursion (IsUnit planes.size) above
+  pub kept : IsKept planes.size (above ++ joined (take n plans)) n grid
   pub coder_is : stands_for coder (first_ctus kind planes.size (picture_source planes.size (picture_of planes)) above plans number n) (first_contexts kind (ctus planes.size.w) number inherited)
   pub is_open : number * ctus planes.size.w + n < ctus planes.size.w * ctus planes.size.h → IsOpen (phase_of coder)
   pub ended : number * ctus planes.size.w + n ≡ ctus planes.size.w * ctus planes.size.h → phase_of coder ≡ Ended
 
-abbrev pub IsUnderWay : Planes → SliceKind → ℕ → List Leaf → List (List Leaf) → Option (List ℕ) → Cells → State → Option ℕ → Type 0
+abbrev pub IsUnderWay : Planes → SliceKind → ℕ → List Leaf → List (List Leaf) → Option (List ℕ) → Option Cells → State → Option ℕ → Type 0
 IsUnderWay planes kind number above plans inherited grid coder None = Unit {0}
 IsUnderWay planes kind number above plans inherited grid coder (Some n) = IsCoded planes kind number above plans inherited grid coder n
 
 -- what holds of each row and what it is coded with
-pub record IsRow (r : Row) (grid : Cells) (coder : State) : Type 0 where
+pub record IsRow (r : Row) (grid : Option Cells) (coder : State) : Type 0 where
   pub wide : 0 < ctus r.planes.size.w
   pub narrow : ctus r.planes.size.w ≤ 128
   pub few : ctus r.planes.size.h ≤ 128
   pub number : r.number < ctus r.planes.size.h
   pub trees : AreTrees r.kind r.planes.size r.number r.plans
-  pub size : grid.size ≡ r.planes.size
   pub fresh : r.begun ≡ false → r.coded ≡ Some 0
+  pub bare : r.begun ≡ false → grid ≡ None
   pub under_way : IsUnderWay r.planes r.kind r.number r.above r.plans r.inherited grid coder r.coded

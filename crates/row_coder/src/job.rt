@@ -1,12 +1,11 @@
 //! A row of coding tree units as a job of the wavefront.
-ghost use Rattle.std.specs.Prelude.{◌≡◌, ◌<◌, ◌≤◌, ℕ, ◌+◌, ◌*◌, ◌-◌, ◌++◌, [], List, length, map, slice_index_or, get_or, false, None, Some, IfOk, OnOk};
+ghost use Rattle.std.specs.Prelude.{◌≡◌, ◌<◌, ◌≤◌, ℕ, ◌+◌, ◌*◌, ◌-◌, ◌++◌, [], length, map, slice_index_or, get_or, false, None, Some, IfOk, OnOk};
 ghost use Rattle.std.specs.Arc.{arc_value};
 ghost use Rattle.std.specs.List.{AllByRecursion};
-ghost use Rattle.h265_model.specs.declared.leaf.Leaf.{Leaf as TheLeaf};
 ghost use Rattle.h265_model.specs.Plain.{ctus, joined};
 ghost use Rattle.h265_model.specs.Tree.{IsLawfulTree};
 ghost use Rattle.px_plane.specs.Planes.{IsPicture};
-ghost use Rattle.pu_code.specs.Cells.{StandsFor, IsUnit};
+ghost use Rattle.pu_code.specs.Cells.{Cells, StandsFor, IsUnit};
 ghost use Rattle.row_coder.specs.Rows.{Row, AreTrees, AreAbove, first_contexts, leaves_of};
 
 use crate::levels::LentLevels;
@@ -16,7 +15,7 @@ use cabac_tables::Contexts;
 use coding_tree::write_ctu;
 use h265_model::SliceKind;
 use pu_code::Grid;
-use px_plane::Picture;
+use px_plane::{Picture, Size};
 use row_core::RowJob;
 use std::alloc::Global;
 use std::marker::Model;
@@ -32,8 +31,8 @@ pub struct CtuRow {
     // What is known of the row above.
     above: Vec<Leaf>,
     plans: Vec<Leaves>,
-    // The coding units of the row above and of the units that are coded.
-    grid: Grid,
+    // The coding units of the row above and of the units that are coded, from the first `code_next` on.
+    grid: Option<Grid>,
     coder: ByteCoder,
     begun: bool,
     inherited: Option<Contexts>,
@@ -83,18 +82,29 @@ fn first_of(kind: SliceKind, across: u32, number: u32, inherited: &Option<Contex
     }
 }
 
-// Keeps the leaves of a coding tree unit of the row above.
-fn keep_leaves(grid: &mut Grid, above: &mut Vec<Leaf>, leaves: &[Leaf]) -> Result<(), NoMemory>
-    requires { AllByRecursion (IsUnit grid.old.size) leaves.now }
-    ensures kept { OnOk result (above.new.items ≡ above.old.items ++ leaves.now) }
-    ensures size { grid.new.size ≡ grid.old.size }
-    ensures set { OnOk result ((before : List TheLeaf) → StandsFor grid.old before → StandsFor grid.new (before ++ leaves.now)) }
+// A grid with the coding units of the row above.
+fn grid_above(alloc: Global, size: Size, above: &[Leaf]) -> Result<Grid, NoMemory>
+    requires { AllByRecursion (IsUnit size) above.now }
+    ensures size { IfOk result (λ grid. grid.size ≡ size) }
+    ensures set { IfOk result (λ grid. StandsFor grid above.now) }
 {
-    above.extend_from_slice(leaves)?;
-    for leaf in leaves {
+    let mut grid = Grid::new(alloc, size)?;
+    for leaf in above {
         grid.set(*leaf);
     }
-    Ok(())
+    Ok(grid)
+}
+
+// The grid that was kept, or else one with the coding units of the row above.
+fn grid_for(alloc: Global, kept: Option<Grid>, size: Size, above: &[Leaf]) -> Result<Grid, NoMemory>
+    requires { AllByRecursion (IsUnit size) above.now }
+    ensures made { IfOk result (λ grid. kept ≡ None → (grid.size ≡ size) × StandsFor grid above.now) }
+    ensures kept { IfOk result (λ grid. (before : Cells) → kept ≡ Some before → grid ≡ before) }
+{
+    match kept {
+        Some(grid) => Ok(grid),
+        None => grid_above(alloc, size, above),
+    }
 }
 
 impl CtuRow {
@@ -104,7 +114,7 @@ impl CtuRow {
     ///
     /// # Errors
     ///
-    /// `NoMemory` where the allocator refuses the grid of coding units.
+    /// None today: a row takes memory by `with_above` and while it is coded.
     pub fn new(
         alloc: Global,
         now: Arc<Picture, Global>,
@@ -125,7 +135,7 @@ impl CtuRow {
           coded = Some 0;
         }) }
     {
-        let grid = Grid::new(alloc, now.size())?;
+        let _size = now.size();
         Ok(CtuRow {
             alloc,
             picture: now,
@@ -133,7 +143,7 @@ impl CtuRow {
             number: row,
             above: Vec::new(alloc),
             plans,
-            grid,
+            grid: None,
             coder: ByteCoder::new(alloc, Contexts::start(kind)),
             begun: false,
             inherited: None,
@@ -141,17 +151,13 @@ impl CtuRow {
         })
     }
 
-    // Adds the leaves of a coding tree unit of the row above. Until they are kept the row is as one that found no memory.
+    // Adds the leaves of a coding tree unit of the row above.
     fn add_above(&mut self, leaves: &[Leaf]) -> Result<(), NoMemory>
         requires fresh { self.old.begun ≡ false }
         requires units { AllByRecursion (IsUnit self.old.planes.size) leaves.now }
         ensures { OnOk result (self.new ≡ record self.old { above = self.old.above ++ leaves.now }) }
     {
-        self.coded = None;
-        self.begun = true;
-        keep_leaves(&mut self.grid, &mut self.above, leaves)?;
-        self.begun = false;
-        self.coded = Some(0);
+        self.above.extend_from_slice(leaves)?;
         Ok(())
     }
 
@@ -202,13 +208,14 @@ impl RowJob for CtuRow {
         let across = (size.w() + 31) / 32;
         let ctu = self.number * across + coded;
         let leaves = self.plans[coded as usize].as_slice();
+        let mut grid = grid_for(self.alloc, self.grid.take(), size, self.above.as_slice())?;
         let mut source = LentLevels {
             lent: &self.picture,
         };
         write_ctu(
             &mut self.coder,
             self.kind,
-            &mut self.grid,
+            &mut grid,
             size,
             ctu,
             leaves,
@@ -218,6 +225,7 @@ impl RowJob for CtuRow {
             value: ctu + 1 == across * ((size.h() + 31) / 32),
             place: Place::Terminate,
         })?;
+        self.grid = Some(grid);
         self.coded = Some(coded + 1);
         Ok(())
     }

@@ -19,8 +19,8 @@ invariant_of-self c =
       few = c.self.invariant.few;
       number = c.self.invariant.number;
       trees = c.self.invariant.trees;
-      size = c.self.invariant.size;
       fresh = λ not_begun. absurd (false≢true (sym not_begun));
+      bare = λ not_begun. absurd (false≢true (sym not_begun));
       under_way = subst (λ (o : Option ℕ). IsUnderWay (arc_value s.picture) s.kind s.number s.above.items (leaves_of s.plans.items) c.args.inherited s.grid c.new.result o) (sym none)
           (begun_with (arc_value s.picture) s.kind s.number s.above.items (leaves_of s.plans.items) s.inherited c.args.inherited s.grid s.coder c.new.result c.self.invariant.wide c.self.invariant.number
           (subst (λ (o : Option ℕ). IsUnderWay (arc_value s.picture) s.kind s.number s.above.items (leaves_of s.plans.items) s.inherited s.grid s.coder o) none c.self.invariant.under_way)
