@@ -1,4 +1,6 @@
 //! Sessions of two clients. An independent model of the recorder in Python gave the streams of all orders of their lines.
+mod many;
+
 ghost use Rattle.std.specs.Prelude.{◌≡◌, ◌≤◌, ◌<◌, length, IfOk};
 ghost use Rattle.paint_script.specs.Spellable.{IsSpellable, IsSpellableRect};
 ghost use Rattle.desk_state.specs.Standing.{most_entries};
