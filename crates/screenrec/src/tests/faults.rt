@@ -1,8 +1,8 @@
 //! Recordings of two cuts over files in memory, with calls that fail, and scripts that are cut off.
 use super::digest;
-use crate::{Cause, Outcome, Status, run_serial};
-use edges::{MemoryShelf, MemorySink};
-use h265_model::NoMemory;
+use crate::{Cause, Outcome, Status, run, run_serial};
+use edges::{MemoryShelf, MemorySink, NoGate};
+use h265_model::{Entry, NoMemory};
 use std::alloc::Global;
 use std::test::Fail;
 
@@ -68,6 +68,38 @@ fn appends_that_fail(rt: HostRuntime) -> Result<(), Fail> {
         assert_eq!(rt; left.shelf.file("o"), stream.get(..stored));
         assert!(rt; left.report.text().is_empty());
     }
+    Ok(())
+}
+
+// Whether an order has both cuts of one client, and the take of the first one alone, after its cut.
+fn has_first_take(order: &[Entry]) -> bool {
+    let (client, number) = (0, 0);
+    let first = Entry::Line { client, index: 0 };
+    let second = Entry::Line { client, index: 1 };
+    let take = Entry::Take { number };
+    if order.len() != 3 || order[0] != first {
+        return false;
+    }
+    order[1] == second && order[2] == take || order[1] == take && order[2] == second
+}
+
+#[test]
+fn an_append_beside_a_client_that_fails(rt: HostRuntime) -> Result<(), Fail> {
+    let alloc = rt.alloc();
+    let whole = record(alloc, "f", &[], &[], &[])?;
+    let stream = whole.shelf.file("o").ok_or("no stream")?;
+    assert_eq!(rt; digest(stream), 0xb5524a7f10d24362);
+    let mut shelf = MemoryShelf::new(alloc, &[], &[(2, 7)])?;
+    shelf.put("a", b"cut\ncut\n")?;
+    let mut report = MemorySink::new(alloc, &[])?;
+    let words = ["record", "32x32", "1", "0", "0", "o", "a"];
+    let outcome = run(&rt, alloc, &words, &mut shelf, &mut report, &NoGate);
+    assert_eq!(rt; outcome.status, Status::SinkFault);
+    assert_eq!(rt; outcome.written, 74);
+    assert!(rt; has_first_take(outcome.order.as_slice()));
+    assert!(rt; shelf.file("o").is_some());
+    assert_eq!(rt; shelf.file("o"), stream.get(..81));
+    assert!(rt; report.text().is_empty());
     Ok(())
 }
 

@@ -3,6 +3,7 @@ ghost use Rattle.std.specs.Prelude.{◌≡◌, ◌≤◌, ◌<◌, ◌-◌, ◌+
 ghost use Rattle.std.specs.Option.{IfSome};
 ghost use Rattle.paint_script.specs.Spellable.{IsSpellable};
 
+use super::digest;
 use crate::stream_file::line_at;
 use crate::{LimitKind, NoMemory, Outcome, Status, run, run_serial};
 use edges::{CalmShelf, DiskShelf, Gate, MemorySink, NoGate};
@@ -70,6 +71,36 @@ impl Gate for Holds {
     fn row_published(&self, _row: u32) {}
 
     fn row_taken(&self, _row: u32) {}
+}
+
+// Holds row 0, once it showed its contexts, until row 1 took them.
+#[derive(Drop)]
+struct HoldsRow {
+    taken: AtomicU64,
+    gave_up: AtomicU64,
+}
+
+impl Gate for HoldsRow {
+    fn line_played(&self, _client: u32, _index: u32) {}
+
+    fn row_published(&self, row: u32) {
+        if row > 0 {
+            return;
+        }
+        for _ in 0..PATIENCE {
+            if self.taken.load(Ordering::SeqCst) > 0 {
+                return;
+            }
+            hint::spin_loop();
+        }
+        self.gave_up.store(1, Ordering::SeqCst);
+    }
+
+    fn row_taken(&self, row: u32) {
+        if row == 1 {
+            self.taken.store(1, Ordering::SeqCst);
+        }
+    }
 }
 
 // Whether each client's lines come in order, all of them, and each take after its cut, which is the last line of a script.
@@ -224,6 +255,28 @@ fn a_client_that_plays_all_while_another_is_held(rt: HostRuntime) -> Result<(), 
         assert!(rt; last < place_of(order, Entry::Line { client, index }));
         assert_eq!(rt; gate.gave_up.load(Ordering::SeqCst), 0);
     }
+    Ok(())
+}
+
+// The stream is the independent model's.
+#[test]
+fn a_row_that_is_held_until_the_next_one_follows(rt: HostRuntime) -> Result<(), Fail> {
+    let alloc = rt.alloc();
+    let gate = HoldsRow {
+        taken: AtomicU64::new(0),
+        gave_up: AtomicU64::new(0),
+    };
+    let mut shelf = CalmShelf::new(alloc)?;
+    shelf.put("a", b"cut\n")?;
+    let mut report = MemorySink::new(alloc, &[])?;
+    let words = ["record", "64x64", "2", "0", "1", "o", "a"];
+    let outcome = run(&rt, alloc, &words, &mut shelf, &mut report, &gate);
+    assert_eq!(rt; outcome.status, Status::Ok);
+    assert_eq!(rt; gate.taken.load(Ordering::SeqCst), 1);
+    assert_eq!(rt; gate.gave_up.load(Ordering::SeqCst), 0);
+    let stream = shelf.file("o").ok_or("no stream")?;
+    assert_eq!(rt; stream.len(), 18_529);
+    assert_eq!(rt; digest(stream), 0x7ab4_324f_78ee_7b21);
     Ok(())
 }
 
