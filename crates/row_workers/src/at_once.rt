@@ -226,7 +226,19 @@ fn work<J: RowJob, G: Gate>(rt: &impl Wait, board: &Board<J>, worker: &mut Worke
     unreachable!()
 }
 
-// All workers at work, each in a thread of its own where one can be made.
+// How many threads serve so many workers: no more than there are processors, as further ones make the last rows late; but two, so
+// that rows are coded side by side wherever threads can be made.
+fn threads_for(rt: &impl Threads, workers: usize) -> usize
+    ensures { 0 < workers → 0 < result }
+{
+    let processors = match thread::available_parallelism(rt) {
+        Ok(count) => count.get(),
+        Err(_) => workers,
+    };
+    workers.min(processors.max(2))
+}
+
+// All workers at work, in threads side by side: where there are fewer threads than workers, a thread takes one worker after another.
 fn work_all<R: Threads + Wait + Sync, J: RowJob, G: Gate + Sync>(
     rt: &R,
     board: &Board<J>,
@@ -236,12 +248,12 @@ fn work_all<R: Threads + Wait + Sync, J: RowJob, G: Gate + Sync>(
     requires { All (IsReady board.now) workers.old }
     ensures { HaveWorked board.now workers.old workers.new }
 {
-    let threads = workers.len();
-    if threads > 0 {
+    let count = workers.len();
+    if count > 0 {
         thread::for_each_mut(
             rt,
             workers,
-            threads,
+            threads_for(rt, count),
             &|_, worker: &mut Worker<J>|
                 requires { IsReady board.now worker.old }
                 ensures { HasWorked board.entry.now worker.old worker.new }
