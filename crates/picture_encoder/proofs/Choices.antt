@@ -1,6 +1,6 @@
 -- The leaves that are chosen of a picture: row by row, and lawful.
 use Rattle.std.proofs.Common.{◌≡◌, refl, sym, ◌∙◌, ap, subst, ℕ, zero, suc, ◌+◌, ◌*◌, ◌-◌, ◌<◌, ◌≤◌, List, [], ◌∷◌, Bool, true, false, cond, take, drop, get_or, map, arith}
-use Rattle.std.specs.Prelude.{Some, None, nat_lt, ◌&&◌}
+use Rattle.std.specs.Prelude.{Option, Some, None, is_none, nat_lt, ◌&&◌}
 use Rattle.std.specs.List.{range_with_len}
 use Rattle.std.proofs.lemmas.List.FromFn.{take-map-range_with_len, length-map-range_with_len, get_or-map-range_with_len}
 use Rattle.std.proofs.lemmas.Nat.{mul-le}
@@ -14,7 +14,6 @@ use Rattle.h265_laws.proofs.ChoiceLaw.{choice_is_lawful, choice_is_fair, allowed
 use Rattle.h265_laws.proofs.PredictionLaw.{source_is}
 use Rattle.px_plane.specs.Planes.{Planes, plane_of, picture_of}
 use Rattle.row_coder.specs.Rows.{AreTrees, AreAbove}
-use Rattle.picture_encoder.specs.Planning.{reference_of}
 
 -- ---- rows of a list
 
@@ -43,41 +42,38 @@ module _ {A : Type 0} (f : ℕ → A) where
 
 -- ---- lawful leaves
 
-module _ (last now : Picture) (size : Size) (effort : ℕ) where
-  abbrev chosen_with : Bool → ℕ → List Leaf
-  chosen_with idr = choice (reference_of idr last) now size effort
+module _ (now : Picture) (size : Size) (effort : ℕ) where
+  pub lawful_are : (reference : Option Picture) (total : ℕ) → AreLawfulTrees (slice_kind (is_none reference)) size (map (choice reference now size effort) (below total)) total
+  lawful_are None total = lawful_alone now size effort total
+  lawful_are (Some last) total = lawful_after (Some last) now size effort total
 
-  pub lawful_are : (idr : Bool) (total : ℕ) → AreLawfulTrees (slice_kind idr) size (map (choice (reference_of idr last) now size effort) (below total)) total
-  lawful_are true total = lawful_alone now size effort total
-  lawful_are false total = lawful_after (Some last) now size effort total
+  allowed_is : (reference : Option Picture) (ctu : ℕ) → AreAllowed (slice_kind (is_none reference)) (choice reference now size effort ctu)
+  allowed_is None ctu = allowed_alone now _ (choice_is_fair None now size effort ctu)
+  allowed_is (Some last) ctu = allowed_after (choice (Some last) now size effort ctu)
 
-  allowed_is : (idr : Bool) (ctu : ℕ) → AreAllowed (slice_kind idr) (choice (reference_of idr last) now size effort ctu)
-  allowed_is true ctu = allowed_alone now _ (choice_is_fair None now size effort ctu)
-  allowed_is false ctu = allowed_after (choice (Some last) now size effort ctu)
-
-  pub above_are : (idr : Bool) (row : ℕ) → AreAbove size row (map (choice (reference_of idr last) now size effort) (range_with_len (row * ctus size.w) (ctus size.w)))
-  above_are idr row = record {
-    many = length-map-range_with_len (chosen_with idr) (row * ctus size.w) (ctus size.w);
+  pub above_are : (reference : Option Picture) (row : ℕ) → AreAbove size row (map (choice reference now size effort) (range_with_len (row * ctus size.w) (ctus size.w)))
+  above_are reference row = record {
+    many = length-map-range_with_len (choice reference now size effort) (row * ctus size.w) (ctus size.w);
     tree = λ i h. subst (λ (l : List Leaf). IsLawfulTree size (row * ctus size.w + i) l)
-        (sym (get_or-map-range_with_len (chosen_with idr) (row * ctus size.w) (ctus size.w) i (row * ctus size.w + i) [] h refl))
-        (choice_is_lawful (reference_of idr last) now size effort (row * ctus size.w + i));
+        (sym (get_or-map-range_with_len (choice reference now size effort) (row * ctus size.w) (ctus size.w) i (row * ctus size.w + i) [] h refl))
+        (choice_is_lawful reference now size effort (row * ctus size.w + i));
   }
 
-  pub trees_are : (idr : Bool) (row : ℕ) → AreTrees (slice_kind idr) size row (map (choice (reference_of idr last) now size effort) (range_with_len (row * ctus size.w) (ctus size.w)))
-  trees_are idr row = record {
-    many = (above_are idr row).many;
-    tree = (above_are idr row).tree;
-    allowed = λ i h. subst (λ (l : List Leaf). AreAllowed (slice_kind idr) l)
-        (sym (get_or-map-range_with_len (chosen_with idr) (row * ctus size.w) (ctus size.w) i (row * ctus size.w + i) [] h refl))
-        (allowed_is idr (row * ctus size.w + i));
+  pub trees_are : (reference : Option Picture) (row : ℕ) → AreTrees (slice_kind (is_none reference)) size row (map (choice reference now size effort) (range_with_len (row * ctus size.w) (ctus size.w)))
+  trees_are reference row = record {
+    many = (above_are reference row).many;
+    tree = (above_are reference row).tree;
+    allowed = λ i h. subst (λ (l : List Leaf). AreAllowed (slice_kind (is_none reference)) l)
+        (sym (get_or-map-range_with_len (choice reference now size effort) (row * ctus size.w) (ctus size.w) i (row * ctus size.w + i) [] h refl))
+        (allowed_is reference (row * ctus size.w + i));
   }
 
-  pub slice_is : (idr : Bool) → 0 < ctus size.w → IsPicture now
-      → IsSlice (slice_kind idr) size (source_of size now) (map (choice (reference_of idr last) now size effort) (below (ctus size.w * ctus size.h)))
-  slice_is idr wide bytes = record {
+  pub slice_is : (reference : Option Picture) → 0 < ctus size.w → IsPicture now
+      → IsSlice (slice_kind (is_none reference)) size (source_of size now) (map (choice reference now size effort) (below (ctus size.w * ctus size.h)))
+  slice_is reference wide bytes = record {
     wide = wide;
-    many = length-map-range_with_len (chosen_with idr) 0 (ctus size.w * ctus size.h);
-    lawful = lawful_are idr (ctus size.w * ctus size.h);
+    many = length-map-range_with_len (choice reference now size effort) 0 (ctus size.w * ctus size.h);
+    lawful = lawful_are reference (ctus size.w * ctus size.h);
     source_is = source_is size now bytes;
   }
 

@@ -21,7 +21,7 @@ use Rattle.row_coder.proofs.Linked.{each_job_is_coded}
 use Rattle.row_core.specs.Plans.{no_plan, jobs_of, HaveWidth, rows_of}
 use Rattle.slice_assembly.specs.Substreams.{IsSubstream}
 use Rattle.picture_encoder.specs.declared.planning.Task.{Task}
-use Rattle.picture_encoder.specs.Planning.{planes_of_task, size_of_task, kind_of_task, chosen, all_chosen, row_chosen, job_row, row_of_task, code_of_task}
+use Rattle.picture_encoder.specs.Planning.{planes_of_task, size_of_task, kind_of_task, reference_of_task, chosen, all_chosen, row_chosen, job_row, row_of_task, code_of_task}
 use Rattle.picture_encoder.proofs.Choices.{row_of_all, trees_are, above_are, lawful_are}
 
 -- ---- lists
@@ -111,11 +111,11 @@ module _ (t : Task) where
 
   pub job_trees : (planes : Planes) (kind : SliceKind) (row : ℕ) (plans : List (List Leaf)) → planes ≡ planes_of_task t → kind ≡ kind_of_task t → plans ≡ row_chosen t row
       → AreTrees kind planes.size row plans
-  job_trees planes kind row plans ep ek el = rw (ep, ek, el) (trees_are (picture_of t.last.now) (picture_of (planes_of_task t)) (size_of_task t) t.effort t.idr row)
+  job_trees planes kind row plans ep ek el = rw (ep, ek, el) (trees_are (picture_of (planes_of_task t)) (size_of_task t) t.effort (reference_of_task t) row)
 
   pub job_above : (job : Row) (planes : Planes) (kind : SliceKind) (row : ℕ) (plans : List (List Leaf)) (above : List (List Leaf)) → job ≡ made planes kind row [] plans → planes ≡ planes_of_task t
       → above ≡ row_chosen t (row - 1) → AreAbove job.planes.size (job.number - 1) above
-  job_above job planes kind row plans above is ep ea = rw (is, ep, ea) (above_are (picture_of t.last.now) (picture_of (planes_of_task t)) (size_of_task t) t.effort t.idr (row - 1))
+  job_above job planes kind row plans above is ep ea = rw (is, ep, ea) (above_are (picture_of (planes_of_task t)) (size_of_task t) t.effort (reference_of_task t) (row - 1))
 
   made_is : (planes : Planes) (kind : SliceKind) (row : ℕ) (above : List Leaf) (plans : List (List Leaf)) → row < height → planes ≡ planes_of_task t → kind ≡ kind_of_task t → plans ≡ row_chosen t row
       → above ≡ leaves_above (size_of_task t) (all_chosen t) row → made planes kind row above plans ≡ row_of_task t row
@@ -203,7 +203,7 @@ have_width t = widths_are t 0 (ctus (size_of_task t).h) (omega arith)
 pub leaves_are : (t : Task) → 0 < ctus (size_of_task t).w → ArePictureLeaves (planes_of_task t) (kind_of_task t) (all_chosen t)
 leaves_are t some = record {
   wide = some;
-  lawful = lawful_are (picture_of t.last.now) (picture_of (planes_of_task t)) (size_of_task t) t.effort t.idr (ctus (size_of_task t).w * ctus (size_of_task t).h);
+  lawful = lawful_are (picture_of (planes_of_task t)) (size_of_task t) t.effort (reference_of_task t) (ctus (size_of_task t).w * ctus (size_of_task t).h);
 }
 
 pub task_rows : (t : Task) → 0 < ctus (size_of_task t).w → rows_of (ctus (size_of_task t).w) (map plan_of (map (row_of_task t) (below (ctus (size_of_task t).h)))) ≡ map (code_of_task t) (below (ctus (size_of_task t).h))

@@ -1,17 +1,42 @@
 -- An encoder, and the pictures that it has coded.
-use Rattle.std.specs.Prelude.{◌≡◌, ℕ, List, [], ◌∷◌, length}
+use Rattle.std.specs.Prelude.{◌≡◌, ◌≤◌, ℕ, List, [], ◌∷◌, length, Option, Some, None, IfSome, IsNone}
+use Rattle.std.specs.Arc.{arc_value}
 use Rattle.h265_model.specs.declared.line.Job.{Job}
+use Rattle.h265_model.specs.Plain.{Size}
 use Rattle.h265_model.specs.Words.{Settings}
 use Rattle.h265_model.specs.Desk.{job_for}
-use Rattle.h265_model.specs.Raster.{Raster, raster, coded_picture}
-use Rattle.px_plane.specs.Planes.{Planes, Shows}
-use Rattle.px_plane.specs.Tiles.{DiffersOnlyIn}
+use Rattle.h265_model.specs.Raster.{Raster, raster, coded_picture, planes}
+use Rattle.px_plane.specs.Planes.{Planes, Shows, black, planes_of}
+use Rattle.px_plane.specs.Tiles.{DiffersOnlyIn, IsJobOf, laid}
+use Rattle.picture_encoder.specs.declared.before.Before.{Before}
 
 -- its settings, how many pictures it has coded, and the last of them, which is black where there is none
 pub record Coded : Type 0 where
   pub settings : Settings
   pub count : ℕ
   pub last : Planes
+
+-- the picture that was coded last, or a black one where none was
+abbrev pub last_or_black : Size → Option Planes → Planes
+last_or_black size None = black size
+last_or_black size (Some last) = last
+
+-- the picture that a job makes of another
+pub record IsLaid (before : Planes) (job : Job) (now : Planes) : Type 0 where
+  pub size : now.size ≡ before.size
+  pub planes : planes_of now ≡ planes before.size (laid before job)
+
+-- a picture and a job that make this one
+pub record Makes (b : Before) (now : Planes) : Type 0 where
+  pub fits : IsJobOf (arc_value b.picture).size b.job
+  pub makes : IsLaid (arc_value b.picture) b.job now
+
+-- what an encoder keeps: the picture that was coded last has its size, and where there is none, none was coded
+pub record IsWhole (size : Size) (effort count : ℕ) (last : Option Planes) (before : Option Before) : Type 0 where
+  pub low : effort ≤ 2
+  pub sized : IfSome last (λ p. p.size ≡ size)
+  pub none : IsNone last → count ≡ 0
+  pub again : IfSome before (λ b. Makes b (last_or_black size last))
 
 -- the last of a list, or this where it has none
 abbrev pub last_of : Raster → List Raster → Raster

@@ -1,5 +1,5 @@
 -- A picture that is to be coded, and what is coded of it.
-use Rattle.std.specs.Prelude.{◌≡◌, ◌≤◌, ◌<◌, ℕ, ◌*◌, ◌+◌, Bool, true, false, ◌%◌, List, [], ◌∷◌, map, length, slice_index, slice_index_or, Option, Some, None}
+use Rattle.std.specs.Prelude.{◌≡◌, ◌≤◌, ◌<◌, ℕ, ◌*◌, ◌+◌, Bool, true, false, ◌%◌, List, [], ◌∷◌, map, length, slice_index, slice_index_or, Option, Some, None, option_map, is_none, IfSome}
 use Rattle.std.specs.Arc.{arc_value}
 use Rattle.std.specs.List.{range_with_len, Contains}
 use Rattle.h265_model.specs.declared.leaf.Leaf.{Leaf}
@@ -55,16 +55,24 @@ planes_of_task t = arc_value t.current.now
 abbrev pub size_of_task : Task → Size
 size_of_task t = (planes_of_task t).size
 
+-- the picture that it may copy from
+abbrev pub reference_of_task : Task → Option Picture
+reference_of_task t = option_map (λ p. picture_of p.now) t.reference
+
+abbrev pub is_idr_task : Task → Bool
+is_idr_task t = is_none (reference_of_task t)
+
 abbrev pub kind_of_task : Task → SliceKind
-kind_of_task t = slice_kind t.idr
+kind_of_task t = slice_kind (is_idr_task t)
 
 pub record IsTask (t : Task) : Type 0 where
   pub effort : t.effort ≤ 2
-  pub kept : IsKept t.touched.now t.last.now (planes_of_task t)
+  pub long : length t.touched.now ≡ tile_count (size_of_task t)
+  pub kept : IfSome t.reference (λ p. IsKept t.touched.now p.now (planes_of_task t))
 
 -- the leaves of a coding tree unit
 abbrev pub chosen : Task → ℕ → List Leaf
-chosen t = choice (reference_of t.idr (picture_of t.last.now)) (picture_of (planes_of_task t)) (size_of_task t) t.effort
+chosen t = choice (reference_of_task t) (picture_of (planes_of_task t)) (size_of_task t) t.effort
 
 -- those of all
 abbrev pub all_chosen : Task → List (List Leaf)
@@ -100,9 +108,9 @@ rows_of_task t = map (λ row. escape (code_of_task t row)) (below (ctus (size_of
 
 -- the task of a picture after those that an encoder has coded
 pub record IsTaskOf (e : Coded) (now : Planes) (t : Task) : Type 0 where
-  pub last : t.last.now ≡ e.last
+  pub reference : reference_of_task t ≡ reference_of (is_idr e.settings.key e.count) (picture_of e.last)
+  pub idr : is_idr_task t ≡ is_idr e.settings.key e.count
   pub current : planes_of_task t ≡ now
-  pub idr : t.idr ≡ is_idr e.settings.key e.count
   pub effort : t.effort ≡ e.settings.effort
 
 -- the bytes of its rows

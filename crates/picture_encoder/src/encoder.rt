@@ -1,17 +1,19 @@
 //! The encoder of a recording.
-ghost use Rattle.std.specs.Prelude.{◌≡◌, ◌≤◌, ◌<◌, ◌+◌, ◌-◌, ◌^◌, List, [], ◌∷◌, ◌++◌, false, length, map, IfOk, OnOk, OnErr};
+ghost use Rattle.std.specs.Prelude.{◌≡◌, ◌≤◌, ◌<◌, ◌+◌, ◌-◌, ◌^◌, List, [], ◌∷◌, ◌++◌, false, length, map, option_map, IfSome, IfOk, IsOk, OnOk, OnErr, IsTrue};
 ghost use Rattle.std.specs.Arc.{arc_value};
 ghost use Rattle.std.specs.List.{All};
 ghost use Rattle.h265_model.specs.Plain.{ctus};
 ghost use Rattle.h265_model.specs.Raster.{Raster};
-ghost use Rattle.h265_model.specs.Stream.{pieces};
+ghost use Rattle.h265_model.specs.Stream.{is_idr, pieces};
+ghost use Rattle.h265_model.specs.Words.{is_size};
 ghost use Rattle.px_plane.specs.Tiles.{IsJobOf};
-ghost use Rattle.px_plane.specs.Planes.{Shows};
-ghost use Rattle.picture_encoder.specs.Coded.{StandsFor, TurnsInto};
+ghost use Rattle.px_plane.specs.Planes.{picture_of, Shows};
+ghost use Rattle.picture_encoder.specs.Coded.{StandsFor, TurnsInto, IsLaid};
 ghost use Rattle.row_coder.specs.Rows.{plan_of};
 ghost use Rattle.row_core.specs.Plans.{HaveWidth, rows_of};
-ghost use Rattle.picture_encoder.specs.Planning.{IsKept, IsKeptBut, IsTask, IsTaskOf, codes_of, piece_of};
+ghost use Rattle.picture_encoder.specs.Planning.{IsKept, IsKeptBut, IsTask, IsTaskOf, codes_of, piece_of, reference_of};
 
+use crate::before::{Before, lay_over};
 use crate::order::{is_idr, order_bits};
 use crate::picture::picture_piece;
 use crate::planning::Task;
@@ -28,6 +30,13 @@ use std::marker::Model;
 use std::sync::{Arc, Wait};
 use std::thread::Threads;
 
+// A size is within its limits.
+fn size_fits(size: Size)
+    ensures { IsTrue (is_size size) }
+{
+    let _width = size.w();
+}
+
 /// Codes the pictures of a recording, one after another: a picture with a number that KEY divides as an IDR picture, and each other one as it differs
 /// from the one before. With KEY 0 only the first is an IDR picture.
 ///
@@ -35,27 +44,30 @@ use std::thread::Threads;
 #[derive(Drop)]
 pub struct Encoder {
     alloc: Global,
+    size: Size,
     effort: u32,
     key: u32,
     count: u32,
-    // The picture that was coded last; black where there is none.
-    last: Arc<Picture, Global>,
+    // The picture that was coded last.
+    last: Option<Arc<Picture, Global>>,
+    // The one before it, where it is kept.
+    before: Option<Before>,
 }
 
 impl Model for Encoder {
-    ghost use Rattle.std.specs.Prelude.{◌≤◌};
+    ghost use Rattle.std.specs.Prelude.{option_map};
     ghost use Rattle.std.specs.Arc.{arc_value};
-    ghost use Rattle.picture_encoder.specs.Coded.{Coded};
+    ghost use Rattle.picture_encoder.specs.Coded.{Coded, IsWhole, last_or_black};
 
     ghost Value = { Coded };
 
     ghost view = { λ e. record {
-      settings = record { size = (arc_value e.last).size; effort = e.effort; key = e.key };
+      settings = record { size = e.size; effort = e.effort; key = e.key };
       count = e.count;
-      last = arc_value e.last;
+      last = last_or_black e.size (option_map (λ last. arc_value last) e.last);
     } };
 
-    ghost invariant = { λ e. e.effort ≤ 2 };
+    ghost invariant = { λ e. IsWhole e.size e.effort e.count (option_map (λ last. arc_value last) e.last) e.before };
 }
 
 impl Encoder {
@@ -63,20 +75,23 @@ impl Encoder {
     ///
     /// # Errors
     ///
-    /// `NoMemory` where the allocator refuses a picture.
+    /// None: an encoder takes memory with its first picture.
     pub fn new(alloc: Global, size: Size, effort: u32, key: u32) -> Result<Encoder, NoMemory>
         requires { effort ≤ 2 }
+        ensures some { IsOk result }
         ensures settings { IfOk result (λ encoder. encoder.settings ≡ record { size = size; effort = effort; key = key }) }
         ensures sized { IfOk result (λ encoder. encoder.last.size ≡ encoder.settings.size) }
         ensures fresh { IfOk result (λ encoder. StandsFor encoder []) }
     {
-        let last = Arc::new(alloc, Picture::black(alloc, size)?)?;
+        size_fits(size);
         Ok(Encoder {
             alloc,
+            size,
             effort,
             key,
             count: 0,
-            last,
+            last: None,
+            before: None,
         })
     }
 
@@ -89,8 +104,7 @@ impl Encoder {
         ensures piece { IfOk result (λ piece. pieces self.now.settings [] ≡ piece.items ∷ []) }
         ensures short { IfOk result (λ piece. length piece.items < 2 ^ 40) }
     {
-        let size = self.last.size();
-        let piece = write_params(self.alloc, &Params { size })?;
+        let piece = write_params(self.alloc, &Params { size: self.size })?;
         Ok(piece)
     }
 
@@ -116,12 +130,12 @@ impl Encoder {
         ensures short { IfOk result (λ piece. length piece.items < 2 ^ 40) }
         ensures err { OnErr result (self.new ≡ self.old) }
     {
-        let touched = flags_of(self.alloc, self.last.size(), job.tiles.as_slice())?;
+        let touched = flags_of(self.alloc, self.size, job.tiles.as_slice())?;
         let now = self.picture_after(job)?;
         let jobs = self.jobs(&now, &touched)?;
         let rows = rows_alone(self.alloc, jobs)?;
         let piece = self.piece(&now, &touched, &rows)?;
-        self.keep(now);
+        self.keep(now, job);
         Ok(piece)
     }
 
@@ -153,25 +167,65 @@ impl Encoder {
         ensures short { IfOk result (λ piece. length piece.items < 2 ^ 40) }
         ensures err { OnErr result (self.new ≡ self.old) }
     {
-        let touched = flags_of(self.alloc, self.last.size(), job.tiles.as_slice())?;
+        let touched = flags_of(self.alloc, self.size, job.tiles.as_slice())?;
         let now = self.picture_after(job)?;
         let jobs = self.jobs(&now, &touched)?;
         let rows = run_rows(rt, self.alloc, jobs, workers, gate)?;
         let piece = self.piece(&now, &touched, &rows)?;
-        self.keep(now);
+        self.keep(now, job);
         Ok(piece)
     }
 
-    // The picture that a job makes of the last one.
-    fn picture_after(&self, job: &Job) -> Result<Arc<Picture, Global>, NoMemory>
-        requires { IsJobOf self.now.settings.size job.now }
-        ensures size { IfOk result (λ now. (arc_value now).size ≡ self.now.settings.size) }
-        ensures shows { IfOk result (λ now. (shown : Raster) → TurnsInto job.now self.now.last shown → Shows (arc_value now) shown) }
-        ensures kept { IfOk result (λ now. IsKeptBut job.now.tiles self.now.last (arc_value now)) }
+    // The picture before the last one as it is after its job.
+    fn made_again(&mut self) -> Option<Picture>
+        ensures made { IfSome result (λ made. made ≡ self.old.last) }
+        ensures size { IfSome result (λ made. made.size ≡ self.old.settings.size) }
+        ensures same { self.new ≡ self.old }
     {
-        let mut now = self.last.twin()?;
-        now.lay(job);
+        self.before.take()?.next()
+    }
+
+    // A copy of the last picture, or a black one where there is none.
+    fn copy_of_last(&mut self) -> Result<Picture, NoMemory>
+        ensures copy { IfOk result (λ copy. copy ≡ self.old.last) }
+        ensures size { IfOk result (λ copy. copy.size ≡ self.old.settings.size) }
+        ensures same { self.new ≡ self.old }
+    {
+        if let Some(made) = self.made_again() {
+            return Ok(made);
+        }
+        match &self.last {
+            Some(last) => last.twin(),
+            None => Picture::black(self.alloc, self.size),
+        }
+    }
+
+    // The picture that a job makes of the last one.
+    fn picture_after(&mut self, job: &Job) -> Result<Arc<Picture, Global>, NoMemory>
+        requires { IsJobOf self.old.settings.size job.now }
+        ensures size { IfOk result (λ now. (arc_value now).size ≡ self.old.settings.size) }
+        ensures laid { IfOk result (λ now. IsLaid self.old.last job.now (arc_value now)) }
+        ensures shows { IfOk result (λ now. (shown : Raster) → TurnsInto job.now self.old.last shown → Shows (arc_value now) shown) }
+        ensures kept { IfOk result (λ now. IsKeptBut job.now.tiles self.old.last (arc_value now)) }
+        ensures same { self.new ≡ self.old }
+    {
+        let mut now = self.copy_of_last()?;
+        lay_over(&mut now, job);
         Ok(Arc::new(self.alloc, now)?)
+    }
+
+    // The picture that the next one may copy from; none for an IDR picture.
+    fn reference(&self) -> Option<&Picture>
+        ensures copies { option_map (λ p. picture_of p.now) result ≡ reference_of (is_idr self.now.settings.key self.now.count) (picture_of self.now.last) }
+        ensures last { IfSome result (λ p. p.now ≡ self.now.last) }
+    {
+        if is_idr(self.key, self.count) {
+            return None;
+        }
+        match &self.last {
+            Some(last) => Some(last),
+            None => None,
+        }
     }
 
     // What is coded of a picture that is the last one but for tiles that have a flag.
@@ -181,9 +235,8 @@ impl Encoder {
         ensures of { IsTaskOf self.now (arc_value now.now) result }
     {
         Task {
-            last: &self.last,
+            reference: self.reference(),
             current: now,
-            idr: is_idr(self.key, self.count),
             effort: self.effort,
             touched,
         }
@@ -217,13 +270,15 @@ impl Encoder {
         picture_piece(self.alloc, &self.task(now, touched), order, rows)
     }
 
-    // Takes a picture that was coded for the last one.
-    fn keep(&mut self, now: Arc<Picture, Global>)
-        requires size { (arc_value now).size ≡ self.old.settings.size }
+    // Takes the picture that a job made of the last one for the last one.
+    fn keep(&mut self, now: Arc<Picture, Global>, job: &Job)
+        requires job { IsJobOf self.old.settings.size job.now }
+        requires laid { IsLaid self.old.last job.now (arc_value now) }
         requires few { self.old.count < 2 ^ 32 - 1 }
         ensures { self.new ≡ record self.old { count = self.old.count + 1; last = arc_value now } }
     {
-        self.last = now;
+        let last = self.last.replace(now);
+        self.before = Before::of(self.alloc, last, job);
         self.count += 1;
     }
 }

@@ -2,7 +2,7 @@
 ghost use Rattle.std.specs.Prelude.{◌≡◌, ◌<◌, ◌^◌, true, length, map, IfOk};
 ghost use Rattle.h265_model.specs.Plain.{ctus, below};
 ghost use Rattle.h265_model.specs.Stream.{slice_piece};
-ghost use Rattle.picture_encoder.specs.Planning.{size_of_task, code_of_task, rows_of_task};
+ghost use Rattle.picture_encoder.specs.Planning.{is_idr_task, size_of_task, code_of_task, rows_of_task};
 
 use crate::planning::Task;
 use crate::rows::rows_fit;
@@ -19,11 +19,11 @@ pub(crate) fn picture_piece(
 ) -> Result<Vec<u8>, NoMemory>
     requires rows { map (λ row. row.items) rows.now ≡ map (code_of_task task.now) (below (ctus (size_of_task task.now).h)) }
     requires order { order < 256 }
-    requires idr { task.now.idr ≡ true → order ≡ 0 }
-    ensures piece { IfOk result (λ piece. piece.items ≡ slice_piece task.now.idr order (rows_of_task task.now)) }
+    requires idr { is_idr_task task.now ≡ true → order ≡ 0 }
+    ensures piece { IfOk result (λ piece. piece.items ≡ slice_piece (is_idr_task task.now) order (rows_of_task task.now)) }
     ensures short { IfOk result (λ piece. length piece.items < 2 ^ 40) }
 {
     rows_fit(task, rows);
-    let piece = assemble(alloc, task.idr, order, rows)?;
+    let piece = assemble(alloc, task.is_idr(), order, rows)?;
     Ok(piece)
 }

@@ -3,7 +3,7 @@ ghost use Rattle.std.specs.Prelude.{◌≡◌, ◌<◌, ◌≤◌, ◌+◌, ◌*
 ghost use Rattle.h265_model.specs.Plain.{ctus, below};
 ghost use Rattle.h265_model.specs.Desk.{tile_count};
 ghost use Rattle.row_coder.specs.Rows.{leaves_of};
-ghost use Rattle.picture_encoder.specs.Planning.{IsTask, chosen, row_chosen, size_of_task, raised, most_ticks};
+ghost use Rattle.picture_encoder.specs.Planning.{IsTask, is_idr_task, chosen, row_chosen, size_of_task, raised, most_ticks};
 
 use bin_items::Leaves;
 use block_choice::plan_ctu;
@@ -14,15 +14,24 @@ use std::marker::Brand;
 use std::sync::Arc;
 use std::sync::ledger::{Blank, Ledger};
 
-/// A picture that is to be coded, and the last one, which it may copy from where it is no IDR picture.
+/// A picture that is to be coded.
 #[derive(Drop)]
 pub(crate) struct Task<'a> {
-    pub last: &'a Picture,
+    // The last picture, where this one may copy from it: an IDR picture has none.
+    pub reference: Option<&'a Picture>,
     pub current: &'a Arc<Picture, Global>,
-    pub idr: bool,
     pub effort: u32,
     // For each tile, whether the two pictures may differ in it.
     pub touched: &'a [bool],
+}
+
+impl<'a> Task<'a> {
+    /// Whether it is an IDR picture.
+    pub(crate) fn is_idr(&self) -> bool
+        ensures { result ≡ is_idr_task self.now }
+    {
+        self.reference.is_none()
+    }
 }
 
 // The coding units of a coding tree unit.
@@ -33,8 +42,14 @@ fn plan_unit<L: Ledger>(task: &Task, ctu: u32, steps: &mut Steps<L>) -> Leaves
     ensures steps { steps.new ≤ steps.old + most_ticks (slice_index_or task.now.touched.now ctu false) }
 {
     let touched = task.touched[ctu as usize];
-    let last = if task.idr { None } else { Some(task.last) };
-    plan_ctu(last, task.current, task.effort, ctu, touched, steps)
+    plan_ctu(
+        task.reference,
+        task.current,
+        task.effort,
+        ctu,
+        touched,
+        steps,
+    )
 }
 
 // Those of a row of coding tree units.

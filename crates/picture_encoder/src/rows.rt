@@ -5,11 +5,10 @@ ghost use Rattle.std.specs.List.{All};
 ghost use Rattle.h265_model.specs.Plain.{ctus, below, IsPicture, AreBytes};
 ghost use Rattle.h265_model.specs.Words.{is_size};
 ghost use Rattle.px_plane.specs.Planes.{picture_of};
-ghost use Rattle.h265_model.specs.Stream.{slice_kind};
 ghost use Rattle.row_core.specs.Plans.{HaveWidth, rows_of};
 ghost use Rattle.row_coder.specs.Rows.{leaves_of, plan_of};
 ghost use Rattle.slice_assembly.specs.Substreams.{IsSubstream};
-ghost use Rattle.picture_encoder.specs.Planning.{IsTask, row_chosen, row_of_task, code_of_task, size_of_task};
+ghost use Rattle.picture_encoder.specs.Planning.{IsTask, kind_of_task, row_chosen, row_of_task, code_of_task, size_of_task};
 
 use crate::planning::{Task, plan_picture};
 use bin_items::Leaves;
@@ -19,10 +18,14 @@ use row_coder::CtuRow;
 use std::alloc::Global;
 
 // The slice of a picture: I or P.
-fn kind_of(idr: bool) -> SliceKind
-    ensures { result ≡ slice_kind idr }
+fn kind_of(task: &Task) -> SliceKind
+    ensures { result ≡ kind_of_task task.now }
 {
-    if idr { SliceKind::I } else { SliceKind::P }
+    if task.is_idr() {
+        SliceKind::I
+    } else {
+        SliceKind::P
+    }
 }
 
 // A row with its coding units, and those of the row above, where there is one. `above` are the rows above.
@@ -39,7 +42,7 @@ fn row_job(
     requires above { map (λ row. leaves_of row.items) above.now ≡ map (row_chosen task.now) (below row) }
     ensures { IfOk result (λ job. job ≡ row_of_task task.now row) }
 {
-    let job = CtuRow::new(alloc, task.current.clone()?, kind_of(task.idr), row, plans)?;
+    let job = CtuRow::new(alloc, task.current.clone()?, kind_of(task), row, plans)?;
     if row == 0 {
         return Ok(job);
     }

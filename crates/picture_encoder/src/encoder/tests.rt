@@ -212,7 +212,7 @@ fn is_next(encoder: &Encoder, job: &Job) -> bool
     ensures number { IsTrue result → job.now.number ≡ encoder.now.count }
     ensures few { IsTrue result → encoder.now.count < 2 ^ 32 - 1 }
 {
-    let size = encoder.last.size();
+    let size = encoder.size;
     let count = (size.w() + 31) / 32 * ((size.h() + 31) / 32);
     let (tiles, samples) = (job.tiles.as_slice(), job.samples.as_slice());
     job.number == encoder.count
@@ -251,6 +251,32 @@ fn next_piece<R: Threads + Wait + Sync>(
 
 // How many workers code the rows; none is the caller's thread.
 const WORKERS: [u32; 4] = [0, 1, 2, 64];
+
+// Whether the last picture is made again of the one before it after so many of the cuts of `FOUR_TILES`, which list 4, 1, 0 and 2 tiles.
+const MADE_AGAIN: [bool; 5] = [false, false, true, true, false];
+
+#[test]
+fn few_tiles_keep_the_picture_before(rt: HostRuntime) -> Result<(), Fail> {
+    for cuts in 0..5usize {
+        for workers in WORKERS {
+            assert!(rt; workers <= 64);
+            let size = Size::new(40, 40).ok_or("size")?;
+            let mut encoder = Encoder::new(rt.alloc(), size, 0, 0)?;
+            for number in 0..cuts as u32 {
+                let job = job(rt.alloc(), size, number, FOUR_TILES[number as usize])?;
+                assert!(rt; is_next(&encoder, &job));
+                let _piece = next_piece(&rt, &mut encoder, &job, workers)?;
+            }
+            let made = encoder.made_again();
+            assert_eq!(rt;
+                made.is_some(),
+                MADE_AGAIN[cuts],
+                "{cuts} cuts, {workers} workers"
+            );
+        }
+    }
+    Ok(())
+}
 
 #[test]
 fn pictures_of_small_desktops(rt: HostRuntime) -> Result<(), Fail> {

@@ -2,7 +2,7 @@ use Rattle.std.proofs.Common.{subst, arith}
 use Rattle.h265_model.specs.Plain.{IsPicture, ctus}
 use Rattle.h265_laws.proofs.PictureLaw.{IsFit, size_fits}
 use Rattle.px_plane.specs.Planes.{Planes, picture_of}
-use Rattle.picture_encoder.specs.Planning.{planes_of_task, size_of_task, kind_of_task, all_chosen, code_of_task}
+use Rattle.picture_encoder.specs.Planning.{planes_of_task, size_of_task, kind_of_task, reference_of_task, all_chosen, code_of_task}
 use Rattle.picture_encoder.proofs.Choices.{slice_is}
 use Rattle.picture_encoder.proofs.RowJobs.{rows_long, are_substreams}
 use Rattle.picture_encoder.proofs.rows.rows_fit.Goals as goal
@@ -13,7 +13,7 @@ returns-clause-substreams c =
     let fit : IsFit (size_of_task t) = subst (λ (p : Planes). IsFit p.size) c.deref.ensures (size_fits c.deref.result.now.size c.picture_fits.ensures.size) in
     let bytes : IsPicture (picture_of (planes_of_task t)) = subst (λ (p : Planes). IsPicture (picture_of p)) c.deref.ensures c.picture_fits.ensures.samples in
     are_substreams (λ row. row.items) c.args.rows.now (kind_of_task t) (planes_of_task t) (all_chosen t)
-    (slice_is (picture_of t.last.now) (picture_of (planes_of_task t)) (size_of_task t) t.effort t.idr fit.wide bytes) fit.narrow c.requires
+    (slice_is (picture_of (planes_of_task t)) (size_of_task t) t.effort (reference_of_task t) fit.wide bytes) fit.narrow c.requires
 
 pub returns-clause-some : goal.returns-clause-some
 returns-clause-some c =
