@@ -3,8 +3,8 @@ use Rattle.std.proofs.lemmas.Bool.Decides.{nat_tests}
 use Rattle.std.proofs.lemmas.List.Sums.{sum_by-cons}
 use Rattle.std.proofs.lemmas.List.{map-append}
 use Rattle.std.proofs.lemmas.List.Sorted.{IsPermutation-refl, IsPermutation-middle, IsPermutation-cons, IsPermutation-trans}
-use Rattle.std.proofs.Common.{◌≡◌, ◌≢◌, ◌⊎◌, ℕ, zero, suc, ◌+◌, ◌*◌, ◌^◌, ◌<◌, ◌≤◌, ◌==◌, eqb, eq-eqb, ne_eqb, nat_lt, if◌then◌else◌, List, [], ◌∷◌, ◌++◌, map, length, slice_index, Bool, true, false, Option, Some, None, refl, sym, ap, ◌∙◌, subst, inl, inr, ⊎_elim, arith, append_assoc, true≢false}
-use Rattle.std.specs.Prelude.{flat_map, filter, count_by, sum_by, is_some, IsPermutation, IfSome, IsSomeAnd}
+use Rattle.std.proofs.Common.{◌≡◌, ◌≢◌, ◌⊎◌, ℕ, zero, suc, ◌+◌, ◌<◌, ◌≤◌, ◌==◌, eq-eqb, ne_eqb, nat_lt, if◌then◌else◌, List, [], ◌∷◌, ◌++◌, map, slice_index, Bool, true, false, Option, Some, None, refl, sym, ap, ◌∙◌, inl, inr, arith, true≢false}
+use Rattle.std.specs.Prelude.{flat_map, filter, count_by, sum_by, is_some, IsPermutation, IfSome}
 use Rattle.std.specs.List.{AllByRecursion, range_with_len}
 use mathlib.Core.Logic.{dite}
 use mathlib.Core.Option as maybe
@@ -13,11 +13,10 @@ use lib.ListN.{get_elem?}
 use Rattle.atomic_table.specs.Table as table
 use Rattle.h265_model.specs.declared.entry.Entry.{Entry}
 use Rattle.h265_model.specs.Setting.{Setting}
-use Rattle.h265_model.specs.Plain.{below}
-use Rattle.h265_model.specs.Turn.{State, Held, Own, View, Rule, IsInRule, IsExact, IsAtHome, IsHeld, entries_by, holds_it}
+use Rattle.h265_model.specs.Turn.{State, Held, Own, View, IsInRule, IsExact, IsAtHome, IsHeld, holds_it}
 use Rattle.turn_lock.specs.declared.knowledge.Knowledge.{Knowledge}
-use Rattle.turn_lock.specs.Turns.{made_by, times_in, times, total_weight, Fits, Agree, Kept}
-use Rattle.turn_lock.specs.OneHistory.{own_of, held_of, view_of, views_of, home_of, IsOneHistory}
+use Rattle.turn_lock.specs.Turns.{made_by, times_in, times, total_weight, Kept}
+use Rattle.turn_lock.specs.OneHistory.{own_of, view_of, views_of, home_of, IsOneHistory}
 use Rattle.turn_lock.proofs.Histories.{made_by-here, made_by-later}
 
 -- ---- numbers, each once

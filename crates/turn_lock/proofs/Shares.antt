@@ -1,6 +1,6 @@
 -- A pass is cut in two, two are joined, and the last one closes the turn.
 use Rattle.std.proofs.lemmas.Bool.Decides.{nat_tests}
-use Rattle.std.proofs.Common.{nat_lt, ◌≡◌, ◌≢◌, ◌⊎◌, ℕ, zero, suc, ◌+◌, ◌-◌, ◌*◌, ◌^◌, ◌%◌, ◌<◌, ◌≤◌, ◌||◌, ◌==◌, eqb, eq-eqb, ne_eqb, List, [], ◌∷◌, ◌++◌, map, length, set, get_or, Bool, true, false, if◌then◌else◌, Option, Some, None, refl, sym, ap, ◌∙◌, subst, inl, inr, ⊎_elim, arith, length-set, true≢false}
+use Rattle.std.proofs.Common.{nat_lt, ◌≡◌, ◌≢◌, ◌⊎◌, ℕ, zero, suc, ◌+◌, ◌*◌, ◌^◌, ◌<◌, ◌≤◌, ◌||◌, ◌==◌, eq-eqb, ne_eqb, List, [], ◌∷◌, ◌++◌, length, set, get_or, Bool, true, false, if◌then◌else◌, Option, Some, refl, sym, ap, ◌∙◌, subst, inl, inr, ⊎_elim, arith, length-set, true≢false}
 use mathlib.Core.Logic.{dite}
 use mathlib.Core.Option.{some, none, some-injective, some-ne-none}
 use native.Mathlib.Decide.{ℕ_discrete}
@@ -9,10 +9,10 @@ use Rattle.atomic_table.specs.Table.{State, Me, step, keeps, Allows, Splits, Joi
 use Rattle.atomic_table.proofs.Lists.{at_set, set_else, at_longer, at_last}
 use Rattle.h265_model.specs.declared.entry.Entry.{Entry}
 use Rattle.h265_model.specs.Setting.{Setting}
-use Rattle.h265_model.specs.Turn.{author, entries_by}
+use Rattle.h265_model.specs.Turn.{entries_by}
 use Rattle.turn_lock.specs.declared.knowledge.Knowledge.{Knowledge}
 use Rattle.turn_lock.specs.Turns.{made_by, none_made, times_in, tail_of, head_of, total_weight, longer, shorter, Fits, Agree, Kept, opening_view, without_first, only_first, lighter, noted, merged, spent, finds, compared, HasClosed, Begins}
-use Rattle.turn_lock.proofs.Histories.{begins_same, begins_nil, begins_of, between, some_is, made_by-here, made_by-later, made_by-append, made_by-left, made_by-right, times_in-append, none_made-zero, none_made-has, none_made-times, longer_begins, shorter_begins, shorter_le, both_begin}
+use Rattle.turn_lock.proofs.Histories.{begins_nil, begins_of, between, some_is, made_by-here, made_by-later, made_by-append, made_by-left, made_by-right, times_in-append, none_made-zero, none_made-has, none_made-times, longer_begins, shorter_begins, shorter_le, both_begin}
 use Rattle.turn_lock.proofs.Views.{total_weight-set, total_weight-snoc, times-set, times-snoc, set_there}
 use Rattle.turn_lock.proofs.Steps.{unmoved}
 

@@ -1,8 +1,6 @@
 -- Each step on the word keeps the rule of the turn.
-use Rattle.std.proofs.Common.{◌≡◌, ◌≢◌, ◌⊎◌, ℕ, zero, suc, ◌+◌, ◌-◌, ◌*◌, ◌^◌, ◌%◌, ◌<◌, ◌≤◌, ◌||◌, ◌&&◌, not, eqb, List, [], ◌∷◌, ◌++◌, length, set, get_or, Bool, true, false, if◌then◌else◌, Option, Some, None, refl, sym, ap, ◌∙◌, subst, inl, inr, ⊎_elim, arith, length-set, length-append, get_or-set_same, true≢false}
-use mathlib.Core.Logic.{dite}
-use mathlib.Core.Option.{some, none, some-injective}
-use native.Mathlib.Decide.{ℕ_discrete}
+use Rattle.std.proofs.Common.{◌≡◌, ◌≢◌, ◌⊎◌, ℕ, ◌+◌, ◌*◌, ◌^◌, ◌%◌, ◌<◌, ◌||◌, ◌&&◌, not, eqb, List, [], ◌∷◌, ◌++◌, length, set, get_or, Bool, true, false, if◌then◌else◌, Option, Some, None, refl, sym, ap, ◌∙◌, subst, inl, inr, ⊎_elim, arith, length-set, length-append, get_or-set_same, true≢false}
+use mathlib.Core.Option.{some, none}
 use lib.ListN.{get_elem?}
 use lib.Seq.{set-get_or}
 use prog.Atomic.{either}
@@ -12,9 +10,9 @@ use Rattle.h265_model.specs.declared.entry.Entry.{Entry}
 use Rattle.h265_model.specs.Setting.{Setting}
 use Rattle.h265_model.specs.Turn.{author, entries_by}
 use Rattle.turn_lock.specs.declared.knowledge.Knowledge.{Knowledge}
-use Rattle.turn_lock.specs.Turns.{made_by, one_more, times_in, total_weight, Fits, Agree, Kept, finds, holding, gives_back, gives_entry, OwnExact, Enters, taken, looked, compared, returned, added, Begins}
+use Rattle.turn_lock.specs.Turns.{made_by, times_in, total_weight, Fits, Kept, finds, holding, gives_back, gives_entry, taken, looked, returned, added, Begins}
 use Rattle.turn_lock.specs.Laws.{IsReady}
-use Rattle.turn_lock.proofs.Histories.{begins_same, begins_nil, begins_more, begins_of, entries_by-snoc, by_itself, by_another, one_more-same, one_more-other, times_in-more, some_is, snoc_same, own_more, numbers_more}
+use Rattle.turn_lock.proofs.Histories.{begins_same, begins_more, entries_by-snoc, by_another, times_in-more, snoc_same, own_more, numbers_more}
 use Rattle.turn_lock.proofs.Views.{total_weight-set, agree_set}
 
 even_is_free : (held : Bool) (n l : ℕ) → n ≡ 2 * l + (if held then 1 else 0) → n % 2 ≡ 0 → held ≡ false

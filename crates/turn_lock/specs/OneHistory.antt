@@ -1,5 +1,5 @@
 -- The table of a turn as the definition of the turn speaks of it: one word, one state, and what the passes and notes know.
-use Rattle.std.specs.Prelude.{◌≡◌, ℕ, ◌==◌, List, [], ◌∷◌, map, slice_index, Bool, if◌then◌else◌, Option, Some, None}
+use Rattle.std.specs.Prelude.{ℕ, ◌==◌, List, [], ◌∷◌, map, slice_index, Bool, if◌then◌else◌, Option, Some, None}
 use Rattle.atomic_table.specs.Table as table
 use mathlib.Core.Option as maybe
 use Rattle.h265_model.specs.declared.entry.Entry.{Entry}

@@ -1,7 +1,7 @@
 -- A pass or a note as contracts see it.
 use Rattle.std.specs.Prelude.{◌≡◌, ℕ, ◌+◌, ◌*◌, ◌<◌, List, [], ◌∷◌, length, true, false, Option, Some, None, slice_get}
 use Rattle.atomic_table.specs.Table.{Me}
-use Rattle.atomic_table.specs.Seated.{TableId, table_id_coded}
+use Rattle.atomic_table.specs.Seated.{TableId}
 use Rattle.h265_model.specs.Setting.{Setting}
 use Rattle.turn_lock.specs.Turns.{fresh_view}
 use Rattle.turn_lock.specs.declared.knowledge.Knowledge.{Knowledge}

@@ -14,6 +14,20 @@ use std::marker::Model;
 use std::snapshot::Snapshot;
 use std::sync::Wait;
 
+// How often a pass that has waited long yields the processor before it looks at the word again. Each look takes the word from the cache of the processor that
+// has the turn, and each turn that goes to another processor takes the state there, too.
+const YIELDS: u32 = 100;
+
+// A pause between two tries: short at first.
+fn pause(backoff: &Backoff) {
+    backoff.snooze();
+    if backoff.is_completed() {
+        for _ in 0..YIELDS {
+            backoff.snooze();
+        }
+    }
+}
+
 /// A state that one pass at a time takes out.
 #[derive(Drop)]
 pub struct Turn<S: Told> {
@@ -125,7 +139,7 @@ impl<S: Told + Drop> Turn<S> {
             if let Ok(state) = self.try_enter(pass) {
                 return state;
             }
-            backoff.snooze();
+            pause(&backoff);
         }
         unreachable!()
     }

@@ -1,4 +1,4 @@
-use Rattle.std.proofs.Common.{ℕ, ◌+◌, ◌≡◌, suc, arith, ◌∙◌, ap}
+use Rattle.std.proofs.Common.{◌+◌, ◌≡◌, suc, arith, ◌∙◌, ap}
 use Rattle.turn_lock.specs.Turns.{none_made}
 use Rattle.turn_lock.proofs.Steps.{looks, takes_turn, returns_turn, adds_entry}
 use Rattle.turn_lock.proofs.Shares.{opens, compares, hands_out, notes, joins}

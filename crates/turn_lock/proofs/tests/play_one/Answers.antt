@@ -1,5 +1,4 @@
-use Rattle.std.proofs.Common.{sym, ap, ◌∙◌}
-use Rattle.h265_model.specs.Turn.{author}
+use Rattle.std.proofs.Common.{ap, ◌∙◌}
 use Rattle.turn_lock.specs.Turns.{made_by}
 use Rattle.turn_lock.proofs.Histories.{numbers_more}
 use Rattle.turn_lock.proofs.tests.play_one.Goals as goal

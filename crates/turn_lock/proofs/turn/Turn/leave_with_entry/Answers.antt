@@ -1,4 +1,4 @@
-use Rattle.std.proofs.Common.{arith, rules, true≢false, ◌≡◌, ◌<◌, ◌+◌, ◌*◌, ◌-◌, ◌∷◌, ◌++◌, [], length, Some, sym, ap, ◌∙◌, subst, ℕ}
+use Rattle.std.proofs.Common.{arith, rules, true≢false, ◌≡◌, ◌<◌, ◌+◌, ◌*◌, ◌∷◌, ◌++◌, [], length, Some, sym, ap, ◌∙◌, subst, ℕ}
 use Rattle.atomic_table.specs.Table.{rest}
 use Rattle.h265_model.specs.Turn.{author}
 use Rattle.turn_lock.specs.Turns.{made_by, gives_entry}
