@@ -1,46 +1,21 @@
 -- Contexts stay contexts, and those after two lists of items are those after the second from those after the first.
-use Rattle.std.proofs.Common.{◌≡◌, refl, sym, ◌∙◌, ap, subst, ℕ, zero, suc, ◌<◌, List, [], ◌∷◌, ◌++◌, Bool, true, false, cond, get_or, set, length-set}
-use Rattle.std.specs.Prelude.{nat_lt, nat_le}
-use Rattle.std.specs.List.{AllByRecursion, list_all}
-use Rattle.std.proofs.lemmas.Bool.{and_parts, ltb-true}
+use Rattle.std.proofs.Common.{◌≡◌, refl, sym, ◌∙◌, ap, subst, ℕ, zero, suc, List, [], ◌∷◌, ◌++◌, Bool, true, false, cond}
+use Rattle.std.specs.Prelude.{nat_le}
 use Rattle.h265_model.specs.declared.Place.{Place}
 use Rattle.h265_model.specs.declared.Item.{Item}
 use Rattle.h265_model.specs.declared.Place.TheVariants.{Context, Bypass, Terminate}
 use Rattle.h265_model.specs.declared.Item.TheVariants as items
 use Rattle.h265_model.specs.declared.leaf.SliceKind.{SliceKind}
-use Rattle.h265_model.specs.declared.leaf.SliceKind.TheVariants.{I, P}
 use Rattle.h265_model.specs.declared.leaf.Leaf.{Leaf}
 use Rattle.h265_model.specs.Plain.{Size, ctus}
-use Rattle.h265_model.specs.Contexts.{start, next, step, row_start, AreContexts}
+use Rattle.h265_model.specs.Contexts.{start, row_start, AreContexts}
 use Rattle.h265_model.specs.Code.{Coding, fresh, put, coding, contexts_after}
 use Rattle.h265_model.specs.Tree.{Source, ctus_items}
 use Rattle.h265_model.specs.Slice.{contexts_at}
-use Rattle.h265_laws.proofs.ReadBack.{next_bound}
-use Rattle.h265_laws.proofs.Parts.{all_states, put_contexts, stepped, coding_contexts}
-
--- ---- the start
-
-bytes_from : (list : List ℕ) → list_all (λ b. nat_lt b 126) list ≡ true → AllByRecursion (λ b. b < 126) list
-bytes_from [] h = tt
-bytes_from (b ∷ list) h = let p = and_parts (nat_lt b 126) (list_all (λ c. nat_lt c 126) list) h in (ltb-true b 126 p.0, bytes_from list p.1)
-
-pub start_is : (kind : SliceKind) → AreContexts (start kind)
-unfolding start
-start_is I = record { many = refl; each = bytes_from (start I) refl }
-start_is P = record { many = refl; each = bytes_from (start P) refl }
+use Rattle.h265_model.proofs.ContextLaws.{start_is, step_is}
+use Rattle.h265_laws.proofs.Parts.{put_contexts, stepped, coding_contexts}
 
 -- ---- one step, and many
-
-set_is : (xs : List ℕ) (n v : ℕ) → v < 126 → AllByRecursion (λ b. b < 126) xs → AllByRecursion (λ b. b < 126) (set xs n v)
-set_is [] n v h k = k
-set_is (x ∷ xs) zero v h k = (h, k.1)
-set_is (x ∷ xs) (suc n) v h k = (k.0, set_is xs n v h k.1)
-
-step_is : (contexts : List ℕ) (n : ℕ) (bin : Bool) → AreContexts contexts → AreContexts (step contexts n bin)
-step_is contexts n bin are = record {
-  many = length-set contexts n (next (get_or contexts n 0) bin) ∙ are.many;
-  each = set_is contexts n (next (get_or contexts n 0) bin) (next_bound (get_or contexts n 0) bin (all_states contexts n are.each)) are.each;
-}
 
 stepped_is : (place : Place) (bin : Bool) (contexts : List ℕ) → AreContexts contexts → AreContexts (stepped place bin contexts)
 stepped_is (Context n) bin contexts are = step_is contexts n bin are

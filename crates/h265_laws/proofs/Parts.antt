@@ -1,5 +1,5 @@
 -- Parts of a list of items, and the engines between them.
-use Rattle.std.proofs.Common.{◌≡◌, refl, sym, ◌∙◌, ap, subst, ℕ, zero, suc, ◌+◌, ◌-◌, ◌/◌, ◌%◌, ◌<◌, List, [], ◌∷◌, ◌++◌, Bool, true, false, cond, not, length, arith}
+use Rattle.std.proofs.Common.{◌≡◌, refl, sym, ◌∙◌, ap, subst, ℕ, zero, suc, ◌+◌, ◌-◌, ◌/◌, ◌%◌, List, [], ◌∷◌, ◌++◌, Bool, true, false, cond, not, length}
 use Rattle.std.specs.Prelude.{Option, Some, None, get_or, nat_le, nat_lt}
 use Rattle.std.specs.Bool.{beq}
 use Rattle.h265_model.specs.declared.Place.{Place}
@@ -8,8 +8,8 @@ use Rattle.h265_model.specs.declared.Place.TheVariants.{Context, Bypass, Termina
 use Rattle.h265_model.specs.declared.Item.TheVariants as items
 use Rattle.h265_model.specs.Contexts.{lps_range, mps, step}
 use Rattle.h265_model.specs.Engine.{Engine, take_bit, shift_in, start, doublings, renormalised, with_bin, context_read, bypass_read, terminate_read, bin, aligned, samples, read_bytes, Part, One, Run, sample_first, parts_of, Gives}
-use Rattle.std.specs.List.{AllByRecursion}
 use Rattle.h265_model.specs.Contexts.{AreContexts}
+use Rattle.h265_model.proofs.ContextLaws.{all_states}
 use Rattle.h265_laws.specs.Laws.{IsReadBack}
 use Rattle.h265_laws.proofs.ReadBack.{Starts, read_back}
 use Rattle.h265_model.specs.Code.{Coding, fresh, scaled, put_bin, put, coding, code, contexts_after, IsWellFormed}
@@ -194,11 +194,6 @@ unfolding contexts_after
 named_contexts list e left h = gives_contexts (parts_of list) e left h ∙ sym (coding_contexts list (fresh [] e.contexts))
 
 -- ---- the law
-
-pub all_states : (xs : List ℕ) (n : ℕ) → AllByRecursion (λ byte. byte < 126) xs → get_or xs n 0 < 126
-all_states [] n h = omega arith
-all_states (x ∷ xs) zero h = h.0
-all_states (x ∷ xs) (suc n) h = all_states xs n h.1
 
 pub law : (list : List Item) (contexts z : List ℕ) → IsWellFormed list → AreContexts contexts → IsReadBack list contexts z
 law list contexts z formed are =

@@ -4,7 +4,7 @@ use Rattle.std.proofs.lemmas.List.{length-replicate}
 use Rattle.std.specs.Prelude.{Option, Some, None, get_or, nat_lt, nat_le, ◌&&◌}
 use Rattle.std.specs.List.{AllByRecursion}
 use Rattle.std.specs.Bool.{beq}
-use Rattle.std.proofs.lemmas.Bool.{agree_below, agree_below_at, and_parts, lt-ltb, le-leb, lt-leb, leb-true, ltb-true, eq-eqb, cond-true, cond-false}
+use Rattle.std.proofs.lemmas.Bool.{agree_below, agree_below_at, and_parts, lt-ltb, le-leb, lt-leb, leb-true, eq-eqb, cond-true, cond-false}
 use Rattle.std.proofs.lemmas.Nat.{le-div, div_below}
 use Rattle.std.proofs.Math.Nat.{suc-add, zero-add, pow-suc, sub-zero}
 use Rattle.h265_model.specs.declared.Bin.{Bin}
@@ -12,12 +12,13 @@ use Rattle.h265_model.specs.declared.Place.{Place}
 use Rattle.h265_model.specs.declared.Item.{Item}
 use Rattle.h265_model.specs.declared.Place.TheVariants.{Context, Bypass, Terminate}
 use Rattle.h265_model.specs.declared.Item.TheVariants as items
-use Rattle.h265_model.specs.Contexts.{lps_range, mps, step, next}
+use Rattle.h265_model.specs.Contexts.{lps_range, mps, step}
 use Rattle.h265_model.specs.Engine.{Engine, read_bytes, take_bit, shift_in, start, doublings, renormalised, with_bin, context_read, bypass_read, terminate_read, bin, aligned, samples, Part, One, Run, sample_first, parts_of, Gives}
 use Rattle.h265_model.specs.Code.{Coding, fresh, closing, put_bin, coding, code, contexts_after, bytes_of, Plain, Ended, Filled, GoesOn, IsWellFormed}
 use Rattle.h265_laws.proofs.Digits.{odd, digit-odd, half, u-shifted, bits-bytes_of, read_bytes_of, read_alignment_of, doubled_range}
 use Rattle.h265_model.specs.Bits.{digit, ◌>>=◌ as and_then, u, bits as bits_of, read_alignment}
 use Rattle.h265_model.proofs.ByteLaws.{length-bits, bits-append}
+use Rattle.h265_model.proofs.ContextLaws.{next_bound}
 
 -- ---- the engine beside the final number of a run
 
@@ -267,19 +268,6 @@ lps_bounds byte quarter hb hq =
     let cell : lps_fits quarter byte ≡ true = agree_below_at (lps_fits quarter) (λ b. true) 126 byte row hb in
     let p : (nat_le 6 (lps_range byte quarter) ≡ true) × (nat_le (lps_range byte quarter) 240 ≡ true) = and_parts _ _ cell in
     (leb-true _ _ p.0, leb-true _ _ p.1)
-
-next_fits : Bool → ℕ → Bool
-unfolding next
-next_fits value byte = nat_lt (next byte value) 126
-
-next_all_fit : (value : Bool) → agree_below (next_fits value) (λ byte. true) 126 ≡ true
-unfolding next_fits
-next_all_fit true = refl
-next_all_fit false = refl
-
-pub next_bound : (byte : ℕ) (value : Bool) → byte < 126 → next byte value < 126
-unfolding next_fits
-next_bound byte value h = ltb-true _ _ (agree_below_at (next_fits value) (λ b. true) 126 byte (next_all_fit value) h)
 
 -- each context is a state byte
 pub record AreStates (contexts : List ℕ) : Type 0 where

@@ -1,5 +1,5 @@
 -- A row's bytes end in one that isn't 0, and are fewer than 2 ^ 31.
-use Rattle.std.proofs.Common.{◌≡◌, refl, sym, ◌∙◌, ap, subst, ℕ, suc, ◌-◌, ◌<◌, List, [], ◌∷◌, length, arith}
+use Rattle.std.proofs.Common.{◌≡◌, refl, sym, ◌∙◌, ap, subst, ℕ, ◌-◌, ◌<◌, List, [], ◌∷◌, length, arith}
 use Rattle.std.specs.Prelude.{Option, Some, None, slice_index}
 use Rattle.std.specs.List.{last_or}
 use Rattle.h265_model.specs.Slice.{contexts_at}

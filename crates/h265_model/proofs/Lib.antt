@@ -9,3 +9,5 @@ pub mod Candidates
 pub mod Digits
 pub mod Doublings
 pub mod CodeLaws
+pub mod ContextLaws
+pub mod EachOnce

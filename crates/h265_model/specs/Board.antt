@@ -1,7 +1,7 @@
 -- The board of rows: what its words, its slots and all row seats say of the rows.
-use Rattle.std.specs.Prelude.{◌≡◌, ◌≢◌, ℕ, zero, suc, ◌+◌, ◌^◌, ◌<◌, ◌≤◌, min, Bool, true, false, List, [], map, flat_map, find, sum_by, filter, Option, Some, None, ◌==◌, slice_index_or, length, nat_lt, ◌&&◌, ◌||◌, IsTrue, IsFalse, IsPermutation, if◌then◌else◌}
-use Rattle.std.specs.List.{AllByRecursion, list_any}
-use Rattle.h265_model.specs.Plain.{below, AreBytes}
+use Rattle.std.specs.Prelude.{◌≡◌, ◌⊎◌, ℕ, zero, suc, ◌+◌, ◌^◌, ◌<◌, ◌≤◌, min, Bool, true, false, List, [], map, flat_map, find, sum_by, Option, Some, None, ◌==◌, slice_index_or, length, nat_lt, ◌&&◌, ◌||◌, IsTrue, IsFalse, IsPermutation, if◌then◌else◌}
+use Rattle.std.specs.List.{AllByRecursion}
+use Rattle.h265_model.specs.Plain.{below}
 use Rattle.h265_model.specs.Contexts.{AreContexts}
 use Rattle.h265_model.specs.Wave.{Jobs, inherited, row_bytes, RowState}
 
@@ -22,6 +22,8 @@ pub record Claimed : Type 0 where
   pub row : ℕ
   pub progress : Progress
   pub synced : Bool
+  -- in the midst of a call the seat may have the slot of an open row in hand
+  pub in_hand : Bool
 
 -- what a row seat knows
 pub record Seat : Type 0 where
@@ -37,16 +39,13 @@ pub record Seat : Type 0 where
   pub last : ℕ
   pub weight : ℕ
 
--- what a board is made for: each row has the contexts that it hands on, of 130 state bytes, and the bytes that it gives
-pub record IsPlan (rows width : ℕ) (want give : List (List ℕ)) : Type 0 where
+-- what a board is made for: each row has the contexts that it hands on, of 130 state bytes, and what it gives
+pub record IsPlan (rows : ℕ) (want give : List (List ℕ)) : Type 0 where
   pub some_row : 0 < rows
   pub few_rows : rows < 2 ^ 32
-  pub wide : 0 < width
   pub want_long : length want ≡ rows
   pub give_long : length give ≡ rows
-  -- at width 1 nothing is handed on
-  pub want_contexts : 2 ≤ width → AllByRecursion AreContexts want
-  pub give_bytes : AllByRecursion AreBytes give
+  pub want_contexts : AllByRecursion AreContexts want
 
 -- the two lists of these jobs: what each row hands on and gives, begun with what it inherits
 abbrev pub want_of : Jobs → ℕ → List (List ℕ)
@@ -98,20 +97,27 @@ abbrev pub word_of : Option Claimed → Bool → ℕ
 word_of None below_synced = 0
 word_of (Some c) below_synced = word_of_progress c.progress below_synced
 
--- what stands in the slot of a row
-abbrev pub SlotOfProgress : ℕ → List (List ℕ) → ℕ → Progress → Bool → Slot → Type 0
-SlotOfProgress width want row Open below_synced slot = slot ≡ Away
-SlotOfProgress width want row Published true slot = slot ≡ Away
-SlotOfProgress width want row Published false slot = slot ≡ HomeContexts (slice_index_or want row [])
-SlotOfProgress width want row Lost below_synced slot = slot ≢ Away
+-- What stands in the slot of a claimed row. Its claimer took the job out, and leaves the slot at home, empty, between two calls. The claimer
+-- of the row below takes the contexts out, and puts the slot back empty
+abbrev pub SlotOfProgress : List (List ℕ) → Claimed → Progress → Bool → Slot → Type 0
+SlotOfProgress want c Open below_synced slot = slot ≡ (if c.in_hand then Away else HomeEmpty)
+SlotOfProgress want c Published true slot = (slot ≡ Away) ⊎ (slot ≡ HomeEmpty)
+SlotOfProgress want c Published false slot = slot ≡ HomeContexts (slice_index_or want c.row [])
+SlotOfProgress want c Lost below_synced slot = slot ≡ HomeEmpty
 
+-- what stands in the slot of a row
 abbrev pub SlotOf : ℕ → List (List ℕ) → List (List ℕ) → ℕ → Option Claimed → Bool → Slot → Type 0
 SlotOf width want give row None below_synced slot = (job : JobView) × Fits width want give row job × (slot ≡ HomeJob job)
-SlotOf width want give row (Some c) below_synced slot = SlotOfProgress width want row c.progress below_synced slot
+SlotOf width want give row (Some c) below_synced slot = SlotOfProgress want c c.progress below_synced slot
+
+abbrev pub progress_published : Progress → Bool
+progress_published Open = false
+progress_published Published = true
+progress_published Lost = false
 
 abbrev pub is_published : Option Claimed → Bool
 is_published None = false
-is_published (Some c) = elim c.progress [ Published ↦ true | _ ↦ false ]
+is_published (Some c) = progress_published c.progress
 
 -- one row, its word and its slot
 pub record RowRule (width : ℕ) (want give : List (List ℕ)) (seats : List Seat) (words : List ℕ) (slots : List Slot) (row : ℕ) : Type 0 where
@@ -123,18 +129,28 @@ pub record RowRule (width : ℕ) (want give : List (List ℕ)) (seats : List Sea
   pub two_wide : IsTrue (is_published (claimed_of seats row)) → 2 ≤ width
   pub synced : 0 < row → IsTrue (is_published (claimed_of seats row)) → IsTrue (has_synced (claimed_of seats row))
 
+-- one seat
+pub record SeatRule (rows width : ℕ) (want give : List (List ℕ)) (words : List ℕ) (s : Seat) : Type 0 where
+  pub same_width : s.width ≡ width
+  pub same_want : s.want ≡ want
+  pub same_give : s.give ≡ give
+  pub met : IsTrue s.met_none → rows ≤ slice_index_or words 0 0
+  pub weighs : 1 ≤ s.weight
+
+-- the weight that a seat has to show for having met the end of the rows
+abbrev pub weight_past : Seat → ℕ
+weight_past s = if s.met_none then s.weight else 0
+
 -- The rule over the words (word 0 is that of claims), the slots and all seats that weren't joined into another.
 pub record Rule (rows width : ℕ) (want give : List (List ℕ)) (words : List ℕ) (slots : List Slot) (seats : List Seat) : Type 0 where
-  pub plan : IsPlan rows width want give
+  pub plan : IsPlan rows want give
   pub words_long : length words ≡ rows + 1
   pub slots_long : length slots ≡ rows
   pub claimed : IsPermutation (map (λ c. c.row) (all_rows seats)) (below (min (slice_index_or words 0 0) rows))
-  pub passed : slice_index_or words 0 0 ≤ rows + sum_by (λ s. s.weight) (filter (λ s. s.met_none) seats)
-  pub met : IsTrue (list_any (λ s. s.met_none) seats) → rows ≤ slice_index_or words 0 0
-  pub lists : AllByRecursion (λ s. (s.width ≡ width) × (s.want ≡ want) × (s.give ≡ give)) seats
-  pub weighs : AllByRecursion (λ s. 1 ≤ s.weight) seats
+  pub passed : slice_index_or words 0 0 ≤ rows + sum_by weight_past seats
   pub weights : sum_by (λ s. s.weight) seats ≡ 2 ^ 32
-  pub each : (row : ℕ) → row < rows → RowRule width want give seats words slots row
+  pub each_seat : AllByRecursion (SeatRule rows width want give words) seats
+  pub each_row : (row : ℕ) → row < rows → RowRule width want give seats words slots row
 
 -- The words show this state of a row of the wavefront machine. What is coded and finished of a row its worker alone knows.
 pub record ShowsRow (words : List ℕ) (row : ℕ) (state : RowState) : Type 0 where

@@ -14,7 +14,7 @@ use Rattle.row_board.specs.declared.piece.Piece.TheVariants.{Nothing, Job, Shown
 use Rattle.row_board.specs.declared.knowledge.Stage.TheVariants.{Open, Published, Lost}
 use Rattle.row_board.specs.declared.knowledge.Claimed.{Claimed}
 use Rattle.row_board.specs.declared.knowledge.Knowledge.{Knowledge}
-use Rattle.row_board.specs.Rows.{total, times, claim_of, change, at_stage, in_sync, wanted, ClaimIs, SeatFits, IsWord, met_weight, Kept, finds, claims, meets_none, claimed, laid, picked_up, published, lost, synced}
+use Rattle.row_board.specs.Rows.{total, times, claim_of, change, at_stage, in_sync, wanted, ClaimIs, SeatFits, IsWord, IsTaken, met_weight, Kept, finds, claims, meets_none, claimed, laid, picked_up, published, lost, synced}
 use Rattle.row_board.specs.Laws.{IsOpen}
 use Rattle.row_board.proofs.Claims.{total-set, total-le, claim-here, claim-later, times-cons, times-change, claim-change-same, claim-change-other, alone}
 
@@ -23,15 +23,17 @@ module _ {J : Type 0} where
   pub claim_stays : (words words' : List ℕ) (homes homes' : List (maybe.Option (Piece J))) (rows picked : ℕ) (c : Claimed) → get_or words 0 0 ≤ get_or words' 0 0
       → (get_or words' (c.row + 1) 0 ≡ get_or words (c.row + 1) 0) ⊎ ((get_or words (c.row + 1) 0 ≡ 1) × (get_or words' (c.row + 1) 0 ≡ 2))
       → (0 < c.row → (get_or words' c.row 0 ≡ get_or words c.row 0) ⊎ ((get_or words c.row 0 ≢ 2) × (get_or words' c.row 0 ≢ 2)))
-      → (get_or words (c.row + 1) 0 ≡ 0 → get_elem? homes' c.row ≡ get_elem? homes c.row)
+      → (get_or words (c.row + 1) 0 ≢ 1 → get_or words (c.row + 1) 0 ≢ 2 → get_elem? homes' c.row ≡ get_elem? homes c.row)
       → ClaimIs words homes rows picked c → ClaimIs words' homes' rows picked c
   claim_stays words words' homes homes' rows picked c more here above home is = record {
     inside = is.inside;
     taken = let t = is.taken in omega arith;
     open_word = λ e. let z = is.open_word e in ⊎_elim (λ t. t ∙ z) (λ t. absurd (let a = t.0 in omega arith)) here;
-    open_slot = λ e p. home (is.open_word e) ∙ is.open_slot e p;
+    open_slot = λ e p. let z = is.open_word e in home (λ a. omega arith) (λ a. omega arith) ∙ is.open_slot e p;
+    in_hand = λ e p. let z = is.open_word e in home (λ a. omega arith) (λ a. omega arith) ∙ is.in_hand e p;
     published = λ e. let z = is.published e in ⊎_elim (λ t. (subst (λ (n : ℕ). 0 < n) (sym t) z.0, subst (λ (n : ℕ). n < 3) (sym t) z.1, z.2)) (λ t. let b = t.1 in (omega arith, omega arith, z.2)) here;
     lost = λ e. let z = is.lost e in ⊎_elim (λ t. t ∙ z) (λ t. absurd (let a = t.0 in omega arith)) here;
+    lost_slot = λ e. let z = is.lost e in home (λ a. omega arith) (λ a. omega arith) ∙ is.lost_slot e;
     synced = λ e. let z = is.synced e in (z.0, ⊎_elim (λ t. t ∙ z.1) (λ t. absurd (t.0 z.1)) (above z.0));
     unsynced = λ e p. ⊎_elim (λ t q. is.unsynced e p (sym t ∙ q)) (λ t. t.1) (above p);
   }
@@ -62,17 +64,16 @@ module _ {J : Type 0} (fits : ℕ → List (List ℕ) → List (List ℕ) → �
       → ((j : ℕ) (u : Knowledge) → j ≢ id → get_elem? s.views j ≡ some u → SeatFits s.words s.homes k.rows k.width k.want k.give u → SeatFits words' homes' k.rows k.width k.want k.give u)
       → ((r : ℕ) → r < k.rows → get_or s.words 0 0 ≤ r → (get_or words' (r + 1) 0 ≡ get_or s.words (r + 1) 0) × (0 < r → get_or s.words r 0 ≢ 2 → get_or words' r 0 ≢ 2) × (get_elem? homes' r ≡ get_elem? s.homes r))
       → ((r : ℕ) → r < k.rows → get_or words' (r + 1) 0 ≡ 1 → (c : List ℕ) × (get_elem? homes' r ≡ some (some (Shown c))) × (c ≡ wanted k.want r))
+      → ((r : ℕ) → r < k.rows → get_or words' (r + 1) 0 ≡ 2 → (r + 1 < k.rows) × IsTaken (get_elem? homes' r))
       → ((r : ℕ) → r < k.rows → IsWord k.width (get_or words' (r + 1) 0))
       → Rule record { words = words'; homes = homes'; views = set s.views id w }
-  kept_set s k words' homes' id v w at live wide deep first weight met count mine others waiting shown low =
+  kept_set s k words' homes' id v w at live wide deep first weight met count mine others waiting shown taken low =
       let sums : (q : ℕ) → total (λ u. times q u.rows) (set s.views id w) ≡ total (λ u. times q u.rows) s.views = λ q. let t = total-set (λ u. times q u.rows) s.views id v w at in let c = count q in omega arith in record {
         rows = k.rows;
         width = k.width;
         want = k.want;
         give = k.give;
-        few = k.few;
-        long = k.long;
-        give_long = k.give_long;
+        made = k.made;
         wide = wide ∙ k.wide;
         deep = deep ∙ k.deep;
         each = λ j u there alive. ⊎_elim
@@ -91,6 +92,7 @@ module _ {J : Type 0} (fits : ℕ → List (List ℕ) → List (List ℕ) → �
             let same = waiting r inside (let e = first in omega arith) in
             (same.0 ∙ old.0, (λ p. same.1 p (old.1 p)), (old.2.0, same.2 ∙ old.2.1, old.2.2));
         shown = shown;
+        taken = taken;
         each_word = low;
         weighs = let t = total-set (λ u. u.weight) s.views id v w at in let z = k.weighs in omega arith;
         over =
@@ -118,7 +120,7 @@ module _ {J : Type 0} (fits : ℕ → List (List ℕ) → List (List ℕ) → �
         (λ two. not_two (sym (ap (λ (i : ℕ). get_or (set s.words (r + 1) new) i 0) e ∙ get_or-set_same s.words (r + 1) new 0 (omega arith)) ∙ two)),
       ))
       (λ n. inl (get_or-set_other s.words (r + 1) d.row new 0 n)))
-      (λ _. homes d.row (λ e. other (sym row ∙ e)))
+      (λ _ _. homes d.row (λ e. other (sym row ∙ e)))
       is)
       fits'
 
@@ -152,22 +154,24 @@ module _ {J : Type 0} (fits : ℕ → List (List ℕ) → List (List ℕ) → �
         (λ two. not_two (sym (ap (λ (i : ℕ). get_or (set s.words (r + 1) new) i 0) e ∙ get_or-set_same s.words (r + 1) new 0 (omega arith)) ∙ two)),
       ))
       (λ n. inl (get_or-set_other s.words (r + 1) d.row new 0 n)))
-      (λ _. homes d.row (λ e. apart (sym row ∙ e)))
+      (λ _ _. homes d.row (λ e. apart (sym row ∙ e)))
       o.1 in
-      (row, repick (set s.words (r + 1) new) homes' k.rows v.picked picked d (λ e. ⊎_elim (λ z. omega arith) (λ z. apart (let f = row in omega arith)) was) stays))
+      (row, repick (set s.words (r + 1) new) homes' k.rows v.picked picked d (λ e. ⊎_elim (λ z. omega arith) (λ z. apart (let f = row in omega arith)) was) (λ e. omega arith) stays))
     where
       some_is : (x y : Claimed) → Some x ≡ Some y → x ≡ y
       some_is x y e = cc
 
       -- another slot in hand, which is not this claim's
-      repick : (words : List ℕ) (homes : List (maybe.Option (Piece J))) (rows p p' : ℕ) (d : Claimed) → (p ≡ d.row + 1 → ⊥) → ClaimIs words homes rows p d → ClaimIs words homes rows p' d
-      repick words homes rows p p' d free is = record {
+      repick : (words : List ℕ) (homes : List (maybe.Option (Piece J))) (rows p p' : ℕ) (d : Claimed) → (p ≡ d.row + 1 → ⊥) → (p' ≡ d.row + 1 → ⊥) → ClaimIs words homes rows p d → ClaimIs words homes rows p' d
+      repick words homes rows p p' d free free' is = record {
         inside = is.inside;
         taken = is.taken;
         open_word = is.open_word;
         open_slot = λ e _. is.open_slot e free;
+        in_hand = λ _ e. absurd (free' e);
         published = is.published;
         lost = is.lost;
+        lost_slot = is.lost_slot;
         synced = is.synced;
         unsynced = is.unsynced;
       }
@@ -212,6 +216,11 @@ module _ {J : Type 0} (fits : ℕ → List (List ℕ) → List (List ℕ) → �
       (λ e.
       let x = k.shown q low (sym (get_or-set_other s.words (r + 1) (q + 1) new 0 (λ g. e (omega arith))) ∙ one) in
       (x.0, homes q e ∙ x.1, x.2)))
+      (λ q low two. dite (ℕ_discrete q r)
+      (λ e. absurd (not_two (sym (ap (λ (i : ℕ). get_or (set s.words (r + 1) new) (i + 1) 0) e ∙ here) ∙ two)))
+      (λ e.
+      let x = k.taken q low (sym (get_or-set_other s.words (r + 1) (q + 1) new 0 (λ g. e (omega arith))) ∙ two) in
+      (x.0, subst IsTaken (sym (homes q e)) x.1)))
       (λ q low. dite (ℕ_discrete q r)
       (λ e. subst (IsWord k.width) (sym (ap (λ (i : ℕ). get_or (set s.words (r + 1) new) (i + 1) 0) e ∙ here)) small)
       (λ e. subst (IsWord k.width) (sym (get_or-set_other s.words (r + 1) (q + 1) new 0 (λ g. e (omega arith)))) (k.each_word q low)))
@@ -243,8 +252,10 @@ module _ {J : Type 0} (fits : ℕ → List (List ℕ) → List (List ℕ) → �
               taken = let t = is.taken in omega arith;
               open_word = λ e. absurd (not_open e);
               open_slot = λ e _. absurd (not_open e);
+              in_hand = λ e _. absurd (not_open e);
               published = λ _. (omega arith, omega arith, λ p. in_order (omega arith));
               lost = λ e. absurd (not_lost e);
+              lost_slot = λ e. absurd (not_lost e);
               synced = λ e. let z = is.synced e in (z.0, same_above s r 1 c.row row ∙ z.1);
               unsynced = λ e p two. is.unsynced e p (sym (same_above s r 1 c.row row) ∙ two);
             })),
@@ -278,8 +289,10 @@ module _ {J : Type 0} (fits : ℕ → List (List ℕ) → List (List ℕ) → �
               taken = let t = is.taken in omega arith;
               open_word = λ e. absurd (not_open e);
               open_slot = λ e _. absurd (not_open e);
+              in_hand = λ e _. absurd (not_open e);
               published = λ e. absurd (not_published e);
               lost = λ _. here;
+              lost_slot = λ _. is.open_slot is_open.open_yet (λ e. omega arith);
               synced = λ e. let z = is.synced e in (z.0, same_above s r 3 c.row row ∙ z.1);
               unsynced = λ e p two. is.unsynced e p (sym (same_above s r 3 c.row row) ∙ two);
             }),
@@ -294,7 +307,7 @@ module _ {J : Type 0} (fits : ℕ → List (List ℕ) → List (List ℕ) → �
 
   -- the slot of an open row goes to the seat's hand, or home
   moves_slot : (s : St) (k : Rule s) (r p : ℕ) (homes' : List (maybe.Option (Piece J))) (id : ℕ) (v : Knowledge) (c : Claimed) → get_elem? s.views id ≡ some v → IsOpen v r c → length homes' ≡ length s.homes
-      → ((q : ℕ) → q ≢ r → get_elem? homes' q ≡ get_elem? s.homes q) → ((q : ℕ) → q ≢ r → v.picked ≢ q + 1) → (p ≡ r + 1) ⊎ (get_elem? homes' r ≡ some (some Nothing))
+      → ((q : ℕ) → q ≢ r → get_elem? homes' q ≡ get_elem? s.homes q) → ((q : ℕ) → q ≢ r → v.picked ≢ q + 1) → ((p ≡ r + 1) × (get_elem? homes' r ≡ some none)) ⊎ ((p ≡ 0) × (get_elem? homes' r ≡ some (some Nothing)))
       → Rule record { words = s.words; homes = homes'; views = set s.views id (record v { picked = p }) }
   moves_slot s k r p homes' id v c at is_open deep homes free hand =
       let fits' = k.each id v at is_open.live in
@@ -318,10 +331,14 @@ module _ {J : Type 0} (fits : ℕ → List (List ℕ) → List (List ℕ) → �
                 taken = is.taken;
                 open_word = is.open_word;
                 open_slot = λ open_yet other. dite (ℕ_discrete d.row r)
-                    (λ same. ⊎_elim (λ (t : p ≡ r + 1). absurd (other (let z = t in omega arith))) (λ t. ap (get_elem? homes') same ∙ t) hand)
+                    (λ same. ⊎_elim (λ t. absurd (other (let z = t.0 in omega arith))) (λ t. ap (get_elem? homes') same ∙ t.1) hand)
                     (λ apart. homes d.row apart ∙ is.open_slot open_yet (free d.row apart));
+                in_hand = λ _ it. ⊎_elim (λ t. let z = t.0 in let same : d.row ≡ r = omega arith in ap (get_elem? homes') same ∙ t.1) (λ t. absurd (let z = t.0 in omega arith)) hand;
                 published = is.published;
                 lost = is.lost;
+                lost_slot = λ gone. dite (ℕ_discrete d.row r)
+                    (λ same. absurd (let z = is.lost gone in let y : get_or s.words (d.row + 1) 0 ≡ 0 = ap (λ (i : ℕ). get_or s.words (i + 1) 0) same ∙ blank in omega arith))
+                    (λ apart. homes d.row apart ∙ is.lost_slot gone);
                 synced = is.synced;
                 unsynced = is.unsynced;
               },
@@ -329,11 +346,12 @@ module _ {J : Type 0} (fits : ℕ → List (List ℕ) → List (List ℕ) → �
       }
       (λ j u apart there theirs. seat_stays s.words s.words s.homes homes' k.rows k.width k.want k.give u (omega arith)
       (λ q d e is_row is. claim_stays s.words s.words s.homes homes' k.rows u.picked d (omega arith) (inl refl) (λ _. inl refl)
-      (λ _. homes d.row (λ g. alone r s.views id v c at is_open.mine (let o = k.once r inside taken in omega arith) j u d apart there (ap (λ (z : ℕ). claim_of z u.rows) (sym (sym is_row ∙ g)) ∙ e)))
+      (λ _ _. homes d.row (λ g. alone r s.views id v c at is_open.mine (let o = k.once r inside taken in omega arith) j u d apart there (ap (λ (z : ℕ). claim_of z u.rows) (sym (sym is_row ∙ g)) ∙ e)))
       is)
       theirs)
       (λ q low above. (refl, (λ _ n. n), homes q (λ e. omega arith)))
       (λ q low one. let x = k.shown q low one in (x.0, homes q (λ e. let z = ap (λ (i : ℕ). get_or s.words (i + 1) 0) e ∙ blank in omega arith) ∙ x.1, x.2))
+      (λ q low two. let x = k.taken q low two in (x.0, subst IsTaken (sym (homes q (λ e. let z = ap (λ (i : ℕ). get_or s.words (i + 1) 0) e ∙ blank in omega arith))) x.1))
       k.each_word
 
   pub lays : (slots id r : ℕ) (me : M) (c : Claimed) (cs : List (ℕ × Piece J)) → IsOpen me.0 r c → me.0.picked ≡ r + 1 → me.1 ≡ (r, Nothing) ∷ cs
@@ -348,7 +366,7 @@ module _ {J : Type 0} (fits : ℕ → List (List ℕ) → List (List ℕ) → �
         subst (λ (l : List (ℕ × Piece J)). Rule (stepped s 0 (get_or s.words 0 0) id l w gives)) (sym carried)
             (subst (λ (ws : List ℕ). Rule record { words = ws; homes = set s.homes r (some Nothing); views = set s.views id w }) (sym (set-get_or s.words 0 0))
             (moves_slot s k r 0 (set s.homes r (some Nothing)) id v c at is_open (length-set s.homes r (some Nothing)) (λ q e. set_else s.homes r q (some Nothing) e) (λ q e z. e (omega arith))
-            (inr (set_here s.homes r (some Nothing) (let z = i.0 in let y = i.1.inside in let d = k.deep in omega arith))))),
+            (inr (refl, set_here s.homes r (some Nothing) (let z = i.0 in let y = i.1.inside in let d = k.deep in omega arith))))),
         refl,
       )
 
@@ -362,7 +380,8 @@ module _ {J : Type 0} (fits : ℕ → List (List ℕ) → List (List ℕ) → �
         takes r Nothing,
         ap (get_elem? s.homes) (sym cl.0) ∙ cl.1.open_slot is_open.open_yet (λ e. omega arith),
         subst (λ (ws : List ℕ). Rule record { words = ws; homes = set s.homes r none; views = set s.views id w }) (sym (set-get_or s.words (r + 1) 0))
-            (moves_slot s k r (r + 1) (set s.homes r none) id v c at is_open (length-set s.homes r none) (λ q e. set_else s.homes r q none e) (λ q e z. omega arith) (inl refl)),
+            (moves_slot s k r (r + 1) (set s.homes r none) id v c at is_open (length-set s.homes r none) (λ q e. set_else s.homes r q none e) (λ q e z. omega arith)
+            (inl (refl, set_here s.homes r none (let z = cl.0 in let y = cl.1.inside in let d = k.deep in omega arith)))),
         λ q e. let same : r ≡ q = one_row r q e in λ i. (record v { picked = same i + 1 }, (same i, Nothing) ∷ me.1),
       )
 
@@ -377,7 +396,7 @@ module _ {J : Type 0} (fits : ℕ → List (List ℕ) → List (List ℕ) → �
 
   found_word : (s : St) (k : Rule s) (i id n : ℕ) (cs : List (ℕ × Piece J)) (v : Knowledge) → get_elem? s.views id ≡ some v → 0 < v.weight → Rule (stepped s i (get_or s.words i 0) id cs (finds v i n) keeps)
   found_word s k i id n cs v at live = subst (λ (ws : List ℕ). Rule record { words = ws; homes = s.homes; views = set s.views id (finds v i n) }) (sym (set-get_or s.words i 0))
-      (kept_set s k s.words s.homes id v (finds v i n) at live refl refl refl refl refl (λ q. refl) (finds_fit s.words s.homes k.rows k.width k.want k.give v i n (k.each id v at live)) (λ j u _ _ f. f) (λ r _ _. (refl, (λ _ z. z), refl)) k.shown k.each_word)
+      (kept_set s k s.words s.homes id v (finds v i n) at live refl refl refl refl refl (λ q. refl) (finds_fit s.words s.homes k.rows k.width k.want k.give v i n (k.each id v at live)) (λ j u _ _ f. f) (λ r _ _. (refl, (λ _ z. z), refl)) k.shown k.taken k.each_word)
 
   -- the row r takes what the row q above it shows
   takes_over : (s : St) (k : Rule s) (r q id : ℕ) (cs : List (ℕ × Piece J)) (v : Knowledge) (c : Claimed) (x : List ℕ) → get_elem? s.views id ≡ some v → 0 < v.weight → claim_of r v.rows ≡ Some c → c.synced ≡ false → q + 1 ≡ r → get_or s.words r 0 ≡ 1
@@ -397,7 +416,7 @@ module _ {J : Type 0} (fits : ℕ → List (List ℕ) → List (List ℕ) → �
       let stays : (p : ℕ) (d : Claimed) → d.row ≢ r → ClaimIs s.words s.homes k.rows p d → ClaimIs words' homes' k.rows p d = λ p d apart is. claim_stays s.words words' s.homes homes' k.rows p d (let e = first in omega arith)
       (dite (ℕ_discrete (d.row + 1) r) (λ e. inr (ap (λ (i : ℕ). get_or s.words i 0) e ∙ one, ap (λ (i : ℕ). get_or words' i 0) e ∙ here)) (λ n. inl (get_or-set_other s.words r (d.row + 1) 2 0 n)))
       (λ _. inl (get_or-set_other s.words r d.row 2 0 apart))
-      (λ blank. set_else s.homes q d.row none (λ e. let z : get_or s.words (d.row + 1) 0 ≡ 1 = ap (λ (i : ℕ). get_or s.words (i + 1) 0) e ∙ (ap (λ (i : ℕ). get_or s.words i 0) under ∙ one) in omega arith))
+      (λ not_one _. set_else s.homes q d.row none (λ e. not_one (ap (λ (i : ℕ). get_or s.words (i + 1) 0) e ∙ (ap (λ (i : ℕ). get_or s.words i 0) under ∙ one))))
       is in
       kept_set s k words' homes' id v w at live (length-set s.words r 2) (length-set s.homes q none) first refl refl (λ p. times-change in_sync (λ _. refl) p r v.rows)
       record {
@@ -414,8 +433,10 @@ module _ {J : Type 0} (fits : ℕ → List (List ℕ) → List (List ℕ) → �
                 taken = let t = cl.1.taken in omega arith;
                 open_word = λ e. get_or-set_other s.words r (c.row + 1) 2 0 (λ g. omega arith) ∙ cl.1.open_word e;
                 open_slot = λ e n. set_else s.homes q c.row none (λ g. omega arith) ∙ cl.1.open_slot e n;
+                in_hand = λ e n. set_else s.homes q c.row none (λ g. omega arith) ∙ cl.1.in_hand e n;
                 published = λ e. absurd (true≢false (sym ((cl.1.published e).2 (omega arith)) ∙ not_yet));
                 lost = λ e. get_or-set_other s.words r (c.row + 1) 2 0 (λ g. omega arith) ∙ cl.1.lost e;
+                lost_slot = λ e. set_else s.homes q c.row none (λ g. omega arith) ∙ cl.1.lost_slot e;
                 synced = λ _. (omega arith, ap (λ (i : ℕ). get_or words' i 0) row ∙ here);
                 unsynced = λ e. absurd (true≢false e);
               },
@@ -429,6 +450,11 @@ module _ {J : Type 0} (fits : ℕ → List (List ℕ) → List (List ℕ) → �
       (λ p low is_one. dite (ℕ_discrete (p + 1) r)
       (λ e. absurd (let z = ap (λ (i : ℕ). get_or words' i 0) e ∙ here in omega arith))
       (λ n. let y = k.shown p low (sym (get_or-set_other s.words r (p + 1) 2 0 n) ∙ is_one) in (y.0, set_else s.homes q p none (λ e. n (omega arith)) ∙ y.1, y.2)))
+      (λ p low is_two. dite (ℕ_discrete (p + 1) r)
+      (λ e.
+      let here : q ≡ p = omega arith in
+      (omega arith, inl (ap (get_elem? homes') (sym here) ∙ set_here s.homes q none (let d = k.deep in omega arith))))
+      (λ n. let y = k.taken p low (sym (get_or-set_other s.words r (p + 1) 2 0 n) ∙ is_two) in (y.0, subst IsTaken (sym (set_else s.homes q p none (λ e. n (omega arith)))) y.1)))
       (λ p low. dite (ℕ_discrete (p + 1) r)
       (λ e.
       let was : IsWord k.width 1 = subst (IsWord k.width) (ap (λ (i : ℕ). get_or s.words i 0) e ∙ one) (k.each_word p low) in
@@ -489,7 +515,7 @@ module _ {J : Type 0} (fits : ℕ → List (List ℕ) → List (List ℕ) → �
   older_claims s k new homes' p d more homes is =
       let wide = k.wide in
       claim_stays s.words (set s.words 0 new) s.homes homes' k.rows p d (let e = get_or-set_same s.words 0 new 0 (omega arith) in omega arith)
-      (inl (get_or-set_other s.words 0 (d.row + 1) new 0 (λ e. omega arith))) (λ q. inl (get_or-set_other s.words 0 d.row new 0 (λ e. omega arith))) (λ _. homes d.row is.taken) is
+      (inl (get_or-set_other s.words 0 (d.row + 1) new 0 (λ e. omega arith))) (λ q. inl (get_or-set_other s.words 0 d.row new 0 (λ e. omega arith))) (λ _ _. homes d.row is.taken) is
 
   claims_row : (s : St) (k : Rule s) (n id : ℕ) (cs : List (ℕ × Piece J)) (v : Knowledge) (j : J) → get_elem? s.views id ≡ some v → 0 < v.weight → v.picked ≡ 0 → n ≡ get_or s.words 0 0 → n < k.rows
       → Rule (stepped s 0 (n + 1) id cs (claims (finds v 0 n) n) (takes n (Job j)))
@@ -515,9 +541,7 @@ module _ {J : Type 0} (fits : ℕ → List (List ℕ) → List (List ℕ) → �
         width = k.width;
         want = k.want;
         give = k.give;
-        few = k.few;
-        long = k.long;
-        give_long = k.give_long;
+        made = k.made;
         wide = length-set s.words 0 (n + 1) ∙ k.wide;
         deep = length-set s.homes n none ∙ k.deep;
         each = λ i u there alive. ⊎_elim
@@ -535,8 +559,10 @@ module _ {J : Type 0} (fits : ℕ → List (List ℕ) → List (List ℕ) → �
                       taken = omega arith;
                       open_word = λ _. later n ∙ wait.0;
                       open_slot = λ _ other. absurd (other refl);
+                      in_hand = λ _ _. set_here s.homes n none (let d = k.deep in omega arith);
                       published = λ f. absurd (not_published f);
                       lost = λ f. absurd (not_lost f);
+                      lost_slot = λ f. absurd (not_lost f);
                       synced = λ f. absurd (true≢false (sym f));
                       unsynced = λ _ p two. wait.1 p (sym (get_or-set_other s.words 0 n (n + 1) 0 (λ e. omega arith)) ∙ two);
                     },
@@ -550,8 +576,10 @@ module _ {J : Type 0} (fits : ℕ → List (List ℕ) → List (List ℕ) → �
                       taken = y.taken;
                       open_word = y.open_word;
                       open_slot = λ f _. y.open_slot f (λ g. omega arith);
+                      in_hand = λ _ g. absurd (other (let z = o.0 in omega arith));
                       published = y.published;
                       lost = y.lost;
+                      lost_slot = y.lost_slot;
                       synced = y.synced;
                       unsynced = y.unsynced;
                     },
@@ -573,6 +601,7 @@ module _ {J : Type 0} (fits : ℕ → List (List ℕ) → List (List ℕ) → �
             let old = k.waiting r low (omega arith) in
             (later r ∙ old.0, (λ p two. old.1 p (sym (get_or-set_other s.words 0 r (n + 1) 0 (λ e. omega arith)) ∙ two)), (old.2.0, set_else s.homes n r none (λ e. omega arith) ∙ old.2.1, old.2.2));
         shown = λ r low one. let x = k.shown r low (sym (later r) ∙ one) in (x.0, set_else s.homes n r none (λ e. let z = ap (λ (i : ℕ). get_or s.words (i + 1) 0) e ∙ wait.0 in let y = later r in omega arith) ∙ x.1, x.2);
+        taken = λ r low two. let x = k.taken r low (sym (later r) ∙ two) in (x.0, subst IsTaken (sym (set_else s.homes n r none (λ e. let z = ap (λ (i : ℕ). get_or s.words (i + 1) 0) e ∙ wait.0 in let y = later r in omega arith))) x.1);
         each_word = λ r low. subst (IsWord k.width) (sym (later r)) (k.each_word r low);
         weighs = let t = total-set (λ u. u.weight) s.views id v w at in let z = k.weighs in omega arith;
         over = let f = first in omega arith;
@@ -604,9 +633,7 @@ module _ {J : Type 0} (fits : ℕ → List (List ℕ) → List (List ℕ) → �
         width = k.width;
         want = k.want;
         give = k.give;
-        few = k.few;
-        long = k.long;
-        give_long = k.give_long;
+        made = k.made;
         wide = length-set s.words 0 (n + 1) ∙ k.wide;
         deep = k.deep;
         each = λ i u there alive. ⊎_elim
@@ -628,6 +655,7 @@ module _ {J : Type 0} (fits : ℕ → List (List ℕ) → List (List ℕ) → �
         outside = λ r above. same_sum r ∙ k.outside r above;
         waiting = λ r low above. absurd (let f = first in omega arith);
         shown = λ r low one. k.shown r low (sym (later r) ∙ one);
+        taken = λ r low two. k.taken r low (sym (later r) ∙ two);
         each_word = λ r low. subst (IsWord k.width) (sym (later r)) (k.each_word r low);
         weighs = let t = total-set (λ u. u.weight) s.views id v w at in let z = k.weighs in omega arith;
         over =
@@ -648,7 +676,7 @@ module _ {J : Type 0} (fits : ℕ → List (List ℕ) → List (List ℕ) → �
       let n : ℕ = get_or s.words 0 0 in
       let f = k.each id v at live in
       let bound = total-le met_weight (λ u. u.weight) met_below s.views in
-      let small : (n + 1) % 2 ^ 64 ≡ n + 1 = small_mod n (let a = k.over in let b = k.weighs in let c = k.few in omega arith) in
+      let small : (n + 1) % 2 ^ 64 ≡ n + 1 = small_mod n (let a = k.over in let b = k.weighs in let c = k.made.few_rows in omega arith) in
       let long : slots ≡ k.rows = sym sized ∙ k.deep in
       subst (λ (z : ℕ). (w : Knowledge) × (a : Act (Piece J)) × Valid s.homes me.1 a × Rule (stepped s 0 z id me.1 w a) × claimed fits (step slots 0 1 0 none) me n (w, carried_after me.1 a)) (sym small)
       (dite (dec_lt n k.rows)
@@ -687,7 +715,7 @@ module _ {J : Type 0} (fits : ℕ → List (List ℕ) → List (List ℕ) → �
       let two : get_or s.words (q + 1) 0 ≡ 2 = ap (λ (i : ℕ). get_or s.words i 0) (under ∙ sym row) ∙ was.1 in
       let homes' : List (maybe.Option (Piece J)) = set s.homes q (some Nothing) in
       let stays : (p : ℕ) (d : Claimed) → ClaimIs s.words s.homes k.rows p d → ClaimIs s.words homes' k.rows p d = λ p d is. claim_stays s.words s.words s.homes homes' k.rows p d (omega arith) (inl refl) (λ _. inl refl)
-      (λ blank. set_else s.homes q d.row (some Nothing) (λ e. let z : get_or s.words (d.row + 1) 0 ≡ 2 = ap (λ (i : ℕ). get_or s.words (i + 1) 0) e ∙ two in omega arith)) is in
+      (λ _ not_two. set_else s.homes q d.row (some Nothing) (λ e. not_two (ap (λ (i : ℕ). get_or s.words (i + 1) 0) e ∙ two))) is in
       let seat : (u : Knowledge) → SeatFits s.words s.homes k.rows k.width k.want k.give u → SeatFits s.words homes' k.rows k.width k.want k.give u = λ u f. seat_stays s.words s.words s.homes homes' k.rows k.width k.want k.give u (omega arith) (λ p d e _ is. stays u.picked d is) f in (
         w,
         gives,
@@ -697,6 +725,9 @@ module _ {J : Type 0} (fits : ℕ → List (List ℕ) → List (List ℕ) → �
             (kept_set s k s.words homes' id v w at live refl (length-set s.homes q (some Nothing)) refl refl refl (λ p. refl) (subst (SeatFits s.words homes' k.rows k.width k.want k.give) (sym same) (seat v fits')) (λ j u _ _ f. seat u f)
             (λ p low past. (refl, (λ _ n. n), set_else s.homes q p (some Nothing) (λ e. omega arith)))
             (λ p low one. let x = k.shown p low one in (x.0, set_else s.homes q p (some Nothing) (λ e. let z = ap (λ (i : ℕ). get_or s.words (i + 1) 0) e ∙ two in omega arith) ∙ x.1, x.2))
+            (λ p low is_two. dite (ℕ_discrete p q)
+            (λ e. let y = k.taken p low is_two in (y.0, inr (ap (get_elem? homes') e ∙ set_here s.homes q (some Nothing) (let d = k.deep in omega arith))))
+            (λ n. let y = k.taken p low is_two in (y.0, subst IsTaken (sym (set_else s.homes q p (some Nothing) n)) y.1)))
             k.each_word)),
         refl,
       )

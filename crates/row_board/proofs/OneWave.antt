@@ -28,7 +28,7 @@ has_claim r (c ∷ cs) h = ⊎_elim
     (λ (t : (r ≢ c.row) × (times r (c ∷ cs) ≡ times r cs)). let x = has_claim r cs (λ e. h (t.1 ∙ e)) in (x.0, claim-later r c cs t.0 ∙ x.1))
     (times-cons r c cs)
 
-has_claimer : (r : ℕ) (vs : List Knowledge) → total (λ v. times r v.rows) vs ≡ 1 → (j : ℕ) × (v : Knowledge) × (c : Claimed) × (get_elem? vs j ≡ some v) × (claim_of r v.rows ≡ Some c)
+pub has_claimer : (r : ℕ) (vs : List Knowledge) → total (λ v. times r v.rows) vs ≡ 1 → (j : ℕ) × (v : Knowledge) × (c : Claimed) × (get_elem? vs j ≡ some v) × (claim_of r v.rows ≡ Some c)
 has_claimer r [] h = absurd (omega arith)
 has_claimer r (v ∷ vs) h = dite (ℕ_discrete (times r v.rows) 0)
     (λ nothing. let x = has_claimer r vs (omega arith) in (suc x.0, x.1, x.2, x.3, x.4))
@@ -36,7 +36,7 @@ has_claimer r (v ∷ vs) h = dite (ℕ_discrete (times r v.rows) 0)
 
 -- ---- what a word says
 
-not_true : (b : Bool) → (b ≡ true → ⊥) → b ≡ false
+pub not_true : (b : Bool) → (b ≡ true → ⊥) → b ≡ false
 not_true true h = absurd (h refl)
 not_true false h = refl
 
@@ -71,7 +71,7 @@ row_shown ws r = record {
   coded = if shows_published ws r then 2 else 0;
 }
 
-each_stage : (P : Stage → Type 0) (st : Stage) → (st ≡ Open → P st) → (st ≡ Published → P st) → (st ≡ Lost → P st) → P st
+pub each_stage : (P : Stage → Type 0) (st : Stage) → (st ≡ Open → P st) → (st ≡ Published → P st) → (st ≡ Lost → P st) → P st
 each_stage P Open a b c = a refl
 each_stage P Published a b c = b refl
 each_stage P Lost a b c = c refl
@@ -194,6 +194,8 @@ module _ {J : Type 0} (fits : ℕ → List (List ℕ) → List (List ℕ) → �
         wave = wave;
         same_width = refl;
         sized = length-upto f k.rows;
+        each_has_a_word = k.wide;
+        seats_width = λ j v at live. (k.each j v at live).same_width;
         words = λ r inside. subst (ShowsRow s.words r) (sym (shown r inside)) record { claimed = refl; published = refl; lost = refl; synced = refl };
         seats = λ j v at live r c mine.
             let cl = (k.each j v at live).claims r c mine in

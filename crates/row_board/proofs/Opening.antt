@@ -1,14 +1,15 @@
 -- A new board keeps its rule.
-use Rattle.std.proofs.Common.{◌≡◌, ℕ, zero, suc, ◌+◌, ◌^◌, ◌<◌, ◌≤◌, List, [], ◌∷◌, map, replicate, length, get_or, Bool, false, if◌then◌else◌, Some, None, refl, sym, ap, ◌∙◌, subst, arith, true≢false}
-use Rattle.std.specs.Prelude.{slice_index_or, ◌==◌}
-use Rattle.std.specs.List.{All}
+use Rattle.std.proofs.Common.{◌≡◌, ℕ, zero, suc, ◌+◌, ◌^◌, ◌<◌, ◌≤◌, List, [], ◌∷◌, map, replicate, length, get_or, Bool, true, false, if◌then◌else◌, Some, None, refl, sym, ap, ◌∙◌, subst, arith, true≢false}
+use Rattle.std.specs.Prelude.{slice_index_or, ◌==◌, Option, IfSome}
+use Rattle.std.specs.List.{All, AllByRecursion, range_with_len}
 use Rattle.std.proofs.lemmas.List.FromFn.{length-map-range_with_len, get_or-map-range_with_len}
 use mathlib.Core.Option.{some, some-injective, some-ne-none}
 use lib.ListN.{get_elem?}
 use Rattle.atomic_table.specs.Table.{opening}
+use Rattle.h265_model.specs.Contexts.{AreContexts}
 use Rattle.h265_model.specs.Wave.{Jobs, inherited, row_bytes}
 use Rattle.h265_model.specs.Board.{Fits, want_of, give_of, row_inherits}
-use Rattle.row_core.specs.Plan.{Plan}
+use Rattle.row_core.specs.Plan.{Plan, HandsOn}
 use Rattle.row_board.specs.declared.piece.Piece.TheVariants.{Job}
 use Rattle.row_board.specs.declared.knowledge.Knowledge.{Knowledge}
 use Rattle.row_core.specs.Plans.{no_plan, jobs_of, HaveWidth}
@@ -59,7 +60,32 @@ one_seat : (P : Knowledge → Type 0) (v : Knowledge) (i : ℕ) (u : Knowledge) 
 one_seat P v zero u there p = subst P (some-injective v u there) p
 one_seat P v (suc i) u there p = absurd (some-ne-none u (sym there))
 
+-- where each row hands on contexts, each inherits contexts, and all hand them on
+abbrev HandOn : Jobs → ℕ → Type 0
+HandOn jobs n = (r : ℕ) (inherited : Option (List ℕ)) → r < n → IfSome inherited AreContexts → AreContexts (jobs.second r inherited)
+
+one_or_none : {x : List ℕ} (b : Bool) → AreContexts x → IfSome (if b then None else Some x) AreContexts
+one_or_none true are = tt
+one_or_none false are = are
+
+inherits_contexts : (jobs : Jobs) (n r : ℕ) → HandOn jobs n → r < n → IfSome (inherited jobs r) AreContexts
+unfolding inherited
+inherits_contexts jobs n zero each low = tt
+inherits_contexts jobs n (suc r) each low = one_or_none (jobs.width == 1) (each r (inherited jobs r) (omega arith) (inherits_contexts jobs n r each (omega arith)))
+
+all_contexts : (jobs : Jobs) (n : ℕ) → HandOn jobs n → AllByRecursion AreContexts (want_of jobs n)
+all_contexts jobs n each = some_rows 0 n (λ r low. omega arith)
+  where
+    some_rows : (a k : ℕ) → ((r : ℕ) → r < a + k → r < n) → AllByRecursion AreContexts (map (λ r. jobs.second r (inherited jobs r)) (range_with_len a k))
+    some_rows a zero inside = tt
+    some_rows a (suc k) inside = (let low : a < n = inside a (omega arith) in each a (inherited jobs a) low (inherits_contexts jobs n a each low), some_rows (a + 1) k (λ r low. inside r (omega arith)))
+
 module _ {J : Type 0} (plan : J → Plan) (begun : J → Bool) where
+  hand_on : ((j : J) → HandsOn (plan j)) → (js : List J) (r : ℕ) (inherited : Option (List ℕ)) → r < length (map plan js) → IfSome inherited AreContexts → AreContexts ((slice_index_or (map plan js) r no_plan).second inherited)
+  hand_on hands_on [] r inherited low are = absurd (omega arith)
+  hand_on hands_on (j ∷ js) zero inherited low are = hands_on j inherited are
+  hand_on hands_on (j ∷ js) (suc r) inherited low are = hand_on hands_on js r inherited (omega arith) are
+
   plan_at : (js : List J) (r : ℕ) (j : J) → get_elem? js r ≡ some j → slice_index_or (map plan js) r no_plan ≡ plan j
   plan_at [] r j at = absurd (some-ne-none j (sym at))
   plan_at (x ∷ xs) zero j at = ap plan (some-injective x j at)
@@ -110,9 +136,9 @@ module _ {J : Type 0} (plan : J → Plan) (begun : J → Bool) where
         gives = ap (plan j).bytes before ∙ sym (give_at jobs (many js) r inside ∙ ap (λ (p : Plan). p.bytes (inherited jobs r)) (plan_at js r j at));
       }
 
-  pub opens : (js : List J) (n : ℕ) → n ≡ length js → 0 < length js → n < 2 ^ 32 → All (λ x. begun x ≡ false) js → (width : ℕ) × HaveWidth width (map plan js)
+  pub opens : ((j : J) → HandsOn (plan j)) → (js : List J) (n : ℕ) → n ≡ length js → 0 < length js → n < 2 ^ 32 → All (λ x. begun x ≡ false) js → (width : ℕ) × HaveWidth width (map plan js)
       → Kept (job_fits plan begun) (opening (0 ∷ blanks n) (map Job js) (opening_view (map plan js)))
-  opens js n count some_job few fresh widths =
+  opens hands_on js n count some_job few fresh widths =
       let v : Knowledge = opening_view (map plan js) in
       let same : many js ≡ n = length-planned plan js ∙ sym count in
       let width : ℕ = width_of (map plan js) in
@@ -121,9 +147,13 @@ module _ {J : Type 0} (plan : J → Plan) (begun : J → Bool) where
         width = v.width;
         want = v.want;
         give = v.give;
-        few = few;
-        long = length-want (planned js) (many js) ∙ same;
-        give_long = length-give (planned js) (many js) ∙ same;
+        made = record {
+          some_row = omega arith;
+          few_rows = few;
+          want_long = length-want (planned js) (many js) ∙ same;
+          give_long = length-give (planned js) (many js) ∙ same;
+          want_contexts = all_contexts (planned js) (many js) (λ r. hand_on hands_on js r);
+        };
         wide = let l = length-blanks n in omega arith;
         deep = length-pieces js ∙ sym count;
         each = λ i u there alive. one_seat (SeatFits (0 ∷ blanks n) (map some (map Job js)) n v.width v.want v.give) v i u there record {
@@ -144,6 +174,7 @@ module _ {J : Type 0} (plan : J → Plan) (begun : J → Bool) where
               (p.0, p.2, starts_fit js r p.0 p.1 (let e = same in omega arith) (fresh_at js r p.0 p.1 fresh) (width_at widths.0 js r p.0 p.1 widths.1 ∙ sym (one_width widths.0 js some_job widths.1))),
             );
         shown = λ r low one. absurd (let z = word n r in omega arith);
+        taken = λ r low two. absurd (let z = word n r in omega arith);
         each_word = λ r low. let z = word n r in record { low = omega arith; wide = λ some_word _. absurd (omega arith) };
         weighs = omega arith;
         over = omega arith;

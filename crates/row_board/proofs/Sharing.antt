@@ -58,9 +58,7 @@ module _ {J : Type 0} (fits : ℕ → List (List ℕ) → List (List ℕ) → �
     width = k.width;
     want = k.want;
     give = k.give;
-    few = k.few;
-    long = k.long;
-    give_long = k.give_long;
+    made = k.made;
     wide = k.wide;
     deep = k.deep;
     each = each;
@@ -70,6 +68,7 @@ module _ {J : Type 0} (fits : ℕ → List (List ℕ) → List (List ℕ) → �
     outside = λ r a. sums r ∙ k.outside r a;
     waiting = k.waiting;
     shown = k.shown;
+    taken = k.taken;
     each_word = k.each_word;
     weighs = weight ∙ k.weighs;
     over = let o = k.over in omega arith;
@@ -127,7 +126,7 @@ module _ {J : Type 0} (fits : ℕ → List (List ℕ) → List (List ℕ) → �
       let at = final.1.1 in
       let f = k.each id v at (omega arith) in
       let past = f.met met in
-      let long : length v.want ≡ k.rows = ap length f.same_want ∙ k.long in
+      let long : length v.want ≡ k.rows = ap length f.same_want ∙ k.made.want_long in
       record {
         once = λ r low.
             let one = k.once r (omega arith) (omega arith) in

@@ -1,5 +1,5 @@
 -- The table of a board as the definitions of the board and of the wavefront machine speak of it.
-use Rattle.std.specs.Prelude.{◌≡◌, ℕ, ◌<◌, List, length, Bool, true, false, IsTrue, IsFalse, Some}
+use Rattle.std.specs.Prelude.{◌≡◌, ℕ, ◌+◌, ◌<◌, List, length, Bool, true, false, IsTrue, IsFalse, Some}
 use mathlib.Core.Option.{some}
 use lib.ListN.{get_elem?}
 use Rattle.atomic_table.specs.Table.{State}
@@ -37,6 +37,9 @@ pub record IsOneWave {J : Type 0} (s : State (Piece J) Knowledge) : Type 0 where
   pub wave : Wave
   pub same_width : wave.width ≡ width
   pub sized : length wave.rows ≡ rows
+  -- these are the rows and the width of the board: there is a word for each row, and one more, and each seat knows the width
+  pub each_has_a_word : length s.words ≡ rows + 1
+  pub seats_width : (j : ℕ) (v : Knowledge) → get_elem? s.views j ≡ some v → 0 < v.weight → v.width ≡ width
   pub words : (r : ℕ) → r < rows → ShowsRow s.words r (row_at wave r)
   pub seats : (j : ℕ) (v : Knowledge) → get_elem? s.views j ≡ some v → 0 < v.weight → (r : ℕ) (c : Claimed) → claim_of r v.rows ≡ Some c → (r < rows) × Says c (row_at wave r)
   -- a claimed row is of one seat, and a row that wasn't claimed is of none

@@ -1,10 +1,10 @@
 -- The rule of the board, over its words, its slots and what all seats know, and what each step tells.
 -- Word 0 counts the claims. Word r + 1 is that of row r: 0, or 1 once its contexts are shown, 2 once they were taken, 3 where the row is lost.
 use Rattle.std.specs.Prelude.{◌≡◌, ◌≢◌, ◌⊎◌, ℕ, ◌+◌, ◌-◌, ◌^◌, ◌<◌, ◌≤◌, ◌==◌, ◌||◌, List, [], ◌∷◌, ◌++◌, length, slice_index, slice_index_or, Bool, true, false, if◌then◌else◌, Option, Some, None}
-use mathlib.Core.Option.{some}
+use mathlib.Core.Option.{some, none}
 use lib.ListN.{get_elem?}
 use Rattle.atomic_table.specs.Table.{State, Me, Step}
-use Rattle.h265_model.specs.Board.{JobView, Fits, want_of, give_of}
+use Rattle.h265_model.specs.Board.{JobView, IsPlan, Fits, want_of, give_of}
 use Rattle.row_core.specs.Plan.{Plan}
 use Rattle.row_core.specs.Plans.{jobs_of}
 use Rattle.row_board.specs.declared.piece.Piece.{Piece}
@@ -43,14 +43,17 @@ in_sync c = record c { synced = true }
 abbrev pub wanted : List (List ℕ) → ℕ → List ℕ
 wanted want r = slice_index_or want r []
 
--- what the words and slots are at a claimed row. An open row's slot is at home and empty, unless the seat has it in hand
+-- what the words and slots are at a claimed row. The slot of an open row is at home and empty, unless the seat has it in hand; that of a lost
+-- row is empty
 pub record ClaimIs {J : Type 0} (words : List ℕ) (homes : List (mathlib.Core.Option.Option (Piece J))) (rows picked : ℕ) (c : Claimed) : Type 0 where
   pub inside : c.row < rows
   pub taken : c.row < slice_index words 0
   pub open_word : c.stage ≡ Open → slice_index words (c.row + 1) ≡ 0
   pub open_slot : c.stage ≡ Open → picked ≢ c.row + 1 → get_elem? homes c.row ≡ some (some Nothing)
+  pub in_hand : c.stage ≡ Open → picked ≡ c.row + 1 → get_elem? homes c.row ≡ some none
   pub published : c.stage ≡ Published → (0 < slice_index words (c.row + 1)) × (slice_index words (c.row + 1) < 3) × (0 < c.row → c.synced ≡ true)
   pub lost : c.stage ≡ Lost → slice_index words (c.row + 1) ≡ 3
+  pub lost_slot : c.stage ≡ Lost → get_elem? homes c.row ≡ some (some Nothing)
   pub synced : c.synced ≡ true → (0 < c.row) × (slice_index words c.row ≡ 2)
   pub unsynced : c.synced ≡ false → 0 < c.row → slice_index words c.row ≢ 2
 
@@ -66,6 +69,10 @@ pub record IsWord (width n : ℕ) : Type 0 where
   pub low : n ≤ 3
   pub wide : 0 < n → n < 3 → 2 ≤ width
 
+-- a slot whose contexts the row below took: that row's seat has it, or put it back empty
+abbrev pub IsTaken : {J : Type 0} → mathlib.Core.Option.Option (mathlib.Core.Option.Option (Piece J)) → Type 0
+IsTaken slot = (slot ≡ some none) ⊎ (slot ≡ some (some Nothing))
+
 -- the weight of the seats that met the end of the rows
 abbrev pub met_weight : Knowledge → ℕ
 met_weight v = if v.met_none then v.weight else 0
@@ -76,9 +83,7 @@ pub record Kept {J : Type 0} (fits : ℕ → List (List ℕ) → List (List ℕ)
   pub width : ℕ
   pub want : List (List ℕ)
   pub give : List (List ℕ)
-  pub few : rows < 2 ^ 32
-  pub long : length want ≡ rows
-  pub give_long : length give ≡ rows
+  pub made : IsPlan rows want give
   pub wide : length s.words ≡ rows + 1
   pub deep : length s.homes ≡ rows
   pub each : (j : ℕ) (v : Knowledge) → get_elem? s.views j ≡ some v → 0 < v.weight → SeatFits s.words s.homes rows width want give v
@@ -88,6 +93,7 @@ pub record Kept {J : Type 0} (fits : ℕ → List (List ℕ) → List (List ℕ)
   pub outside : (r : ℕ) → rows ≤ r → total (λ v. times r v.rows) s.views ≡ 0
   pub waiting : (r : ℕ) → r < rows → slice_index s.words 0 ≤ r → (slice_index s.words (r + 1) ≡ 0) × (0 < r → slice_index s.words r ≢ 2) × ((j : J) × (get_elem? s.homes r ≡ some (some (Job j))) × fits width want give r j)
   pub shown : (r : ℕ) → r < rows → slice_index s.words (r + 1) ≡ 1 → (x : List ℕ) × (get_elem? s.homes r ≡ some (some (Shown x))) × (x ≡ wanted want r)
+  pub taken : (r : ℕ) → r < rows → slice_index s.words (r + 1) ≡ 2 → (r + 1 < rows) × IsTaken (get_elem? s.homes r)
   pub each_word : (r : ℕ) → r < rows → IsWord width (slice_index s.words (r + 1))
   pub weighs : total (λ v. v.weight) s.views ≡ 2 ^ 32
   pub over : slice_index s.words 0 ≤ rows + total met_weight s.views

@@ -2,6 +2,7 @@
 ghost use Rattle.atomic_table.specs.Table.{State};
 ghost use Rattle.row_board.specs.declared.piece.Piece.{Piece};
 ghost use Rattle.row_board.specs.Rows.{Kept, job_fits};
+ghost use Rattle.row_board.specs.OneBoard.{IsOneBoard};
 ghost use Rattle.row_board.specs.OneWave.{IsOneWave};
 ghost use Rattle.row_board.specs.Laws.{HoldsAtFirst, KeptByClaim, KeptByLayingDown, KeptByLayingAbove, KeptByPickingUp, KeptByPublish, KeptByLose, KeptByTake, KeptBySplit, KeptByJoin};
 
@@ -31,6 +32,12 @@ pub fn each_step_keeps_the_rule<J: RowJob>()
 /// events lead to this state.
 pub fn each_table_shows_a_wave<J: RowJob>()
     ensures { (table : State (Piece J) Knowledge) → Kept (job_fits J.plan J.begun) table → IsOneWave table }
+{}
+
+/// The table's rule is the rule of the board: where it holds, each claimed row is of one seat, and each row's word and slot are what the seats
+/// say of the row and of the one below.
+pub fn each_table_has_one_board<J: RowJob>()
+    ensures { (table : State (Piece J) Knowledge) → Kept (job_fits J.plan J.begun) table → IsOneBoard J.plan J.begun table }
 {}
 
 fn is_send<T: Send>() {}

@@ -3,6 +3,7 @@ ghost use Rattle.std.specs.Prelude.{◌≡◌, ◌≤◌, ◌<◌, ◌-◌, ◌^
 ghost use Rattle.std.specs.Option.{option_map_or};
 ghost use Rattle.h265_model.specs.Contexts.{start, step};
 ghost use Rattle.h265_model.specs.declared.leaf.SliceKind.TheVariants.{I};
+ghost use Rattle.h265_model.proofs.ContextLaws.{inherited_are, step_is};
 ghost use Rattle.row_board.specs.Rows.{job_fits, claim_of, opened, wanted, change, in_sync};
 ghost use Rattle.row_board.specs.Standing.{HasUnsynced, IsSame};
 
@@ -70,6 +71,8 @@ impl RowJob for Steps {
     fn finish(self) -> Result<Vec<u8>, NoMemory> {
         Ok(Vec::new(self.alloc))
     }
+
+    ghost hands_on = { λ j inherited are. step_is _ 0 true (inherited_are I inherited are) };
 }
 
 // A job that wasn't begun.

@@ -1,3 +1,4 @@
+pub mod HandsOn
 pub mod Laws
 pub mod Rows
 pub mod Sources

@@ -182,6 +182,7 @@ impl CtuRow {
 
 impl RowJob for CtuRow {
     ghost use Rattle.row_coder.specs.Rows.{plan_of, coded_of};
+    ghost use Rattle.row_coder.specs.HandsOn.{hands_on_contexts};
 
     ghost plan = { λ r. plan_of r };
 
@@ -245,4 +246,6 @@ impl RowJob for CtuRow {
         }
         coder.finish()
     }
+
+    ghost hands_on = { hands_on_contexts };
 }

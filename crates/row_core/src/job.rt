@@ -1,6 +1,6 @@
 //! What codes a row.
 ghost use Rattle.std.specs.Prelude.{◌≡◌, ◌≤◌, ◌<◌, ◌+◌, Bool, true, false, ℕ, List, Option, OnOk, IfOk};
-ghost use Rattle.row_core.specs.Plan.{Plan};
+ghost use Rattle.row_core.specs.Plan.{Plan, HandsOn};
 
 use cabac_tables::Contexts;
 use h265_model::NoMemory;
@@ -54,4 +54,7 @@ pub trait RowJob: Send + Drop {
         requires begun { begun self ≡ true }
         requires all { coded self ≡ (plan self).width }
         ensures { IfOk result (λ bytes. bytes.items ≡ (plan self).bytes (inherits self)) };
+
+    /// What it hands on is the bytes of contexts, where what it inherits is.
+    ghost hands_on: { (job : Self) → HandsOn (plan job) };
 }

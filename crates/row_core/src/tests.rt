@@ -3,6 +3,7 @@ ghost use Rattle.std.specs.Prelude.{◌≡◌, ◌+◌, false, IfOk};
 ghost use Rattle.std.specs.Option.{option_map_or};
 ghost use Rattle.h265_model.specs.Contexts.{start};
 ghost use Rattle.h265_model.specs.declared.leaf.SliceKind.TheVariants.{I};
+ghost use Rattle.h265_model.proofs.ContextLaws.{inherited_are};
 
 use crate::{Contexts, NotLawful, RowEvent, RowJob, Wave};
 use h265_model::{NoMemory, SliceKind};
@@ -212,6 +213,8 @@ impl RowJob for Echo {
     fn finish(self) -> Result<Vec<u8>, NoMemory> {
         Ok(self.states().as_slice().to_vec(self.alloc)?)
     }
+
+    ghost hands_on = { λ j inherited are. inherited_are I inherited are };
 }
 
 impl Echo {

@@ -3,6 +3,7 @@ ghost use Rattle.std.specs.Prelude.{◌≡◌, ◌≤◌, ◌+◌, [], ◌∷◌
 ghost use Rattle.std.specs.Option.{option_map_or};
 ghost use Rattle.h265_model.specs.Contexts.{start, step};
 ghost use Rattle.h265_model.specs.declared.leaf.SliceKind.TheVariants.{I};
+ghost use Rattle.h265_model.proofs.ContextLaws.{inherited_are, step_is};
 
 use crate::{Contexts, NoMemory, RowJob, rows_alone, run_rows};
 use edges::{Gate, NoGate};
@@ -67,6 +68,8 @@ impl RowJob for Steps {
     fn finish(self) -> Result<Vec<u8>, NoMemory> {
         Ok([self.first().get(0)].to_vec(self.alloc)?)
     }
+
+    ghost hands_on = { λ j inherited are. step_is _ 0 true (inherited_are I inherited are) };
 }
 
 impl Steps {

@@ -6,7 +6,7 @@ use Rattle.row_board.proofs.Opening.{opens}
 use Rattle.row_board.proofs.laws.each_step_keeps_the_rule.Goals as goal
 
 pub returns-clause-first : goal.returns-clause-first
-returns-clause-first g c = λ jobs some_job few fresh widths. opens g.J.RowJob.plan g.J.RowJob.begun jobs _ refl some_job few fresh widths
+returns-clause-first g c = λ jobs some_job few fresh widths. opens g.J.RowJob.plan g.J.RowJob.begun (g.met.J.RowJob g.world.𝓛 g.world.𝓜 g.world.𝓡 ((λ s x. x), (λ x. x), (λ x. x), λ x. x)).hands_on jobs _ refl some_job few fresh widths
 
 pub returns-clause-claim : goal.returns-clause-claim
 returns-clause-claim g c = claims_next (job_fits g.J.RowJob.plan g.J.RowJob.begun)

@@ -16,7 +16,7 @@ new-requires g c =
     let items : c.in_ok-slots.slots.items ≡ map Job c.args.jobs.items = search rules in
     subst (λ (y : List ℕ × List (Piece g.row.J.Denot) × List g.row.J.Denot). Kept (job_fits g.J.RowJob.plan g.J.RowJob.begun) (opening y.0 y.1 (opening_view (map g.J.RowJob.plan y.2))))
     (λ i. (sym words i, sym items i, sym (ap (λ v. v.items) c.of.ensures) i))
-    (opens g.J.RowJob.plan g.J.RowJob.begun c.args.jobs.items n refl c.requires.some c.requires.few c.requires.fresh c.requires.widths)
+    (opens g.J.RowJob.plan g.J.RowJob.begun (g.met.J.RowJob g.world.𝓛 g.world.𝓜 g.world.𝓡 ((λ s x. x), (λ x. x), (λ x. x), λ x. x)).hands_on c.args.jobs.items n refl c.requires.some c.requires.few c.requires.fresh c.requires.widths)
 
 pub invariant_of-result-2 : goal.invariant_of-result-2
 invariant_of-result-2 g c =
