@@ -33,6 +33,7 @@ pub mod WaveLaw
 pub mod Examples
 pub mod SyntaxExamples
 pub mod StreamExamples
+pub mod RefusalExamples
 pub mod DeskExamples
 pub mod SliceExamples
 pub mod EngineExamples
