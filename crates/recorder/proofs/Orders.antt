@@ -1,7 +1,7 @@
 -- The order that a closed session gives, and what was recorded of it.
-use Rattle.std.proofs.Common.{◌≡◌, ℕ, suc, ◌+◌, ◌*◌, ◌^◌, ◌<◌, ◌≤◌, Bool, false, List, [], ◌∷◌, ◌++◌, length, take, Option, Some, refl, sym, ap, subst, ◌∙◌, arith, inl, inr}
+use Rattle.std.proofs.Common.{◌≡◌, ℕ, zero, suc, ◌+◌, ◌*◌, ◌^◌, ◌<◌, ◌≤◌, Bool, true, false, List, [], ◌∷◌, ◌++◌, length, take, Option, Some, refl, sym, ap, subst, ◌∙◌, arith, inl, inr}
 use Rattle.std.specs.Prelude.{slice_index_or, count_by}
-use Rattle.std.specs.List.{All, range_with_len}
+use Rattle.std.specs.List.{All, Any, range_with_len}
 use Rattle.std.proofs.lemmas.Bool.{cases_lt}
 use Rattle.std.proofs.lemmas.Option.{get_or_from_slice_get}
 use Rattle.std.proofs.lemmas.List.{get_or_past, get_or_append_left, take-append-le}
@@ -60,6 +60,7 @@ pub record IsPlayer (scripts : Scripts) (c : ℕ) (p : Client) : Type 0 where
   pub client : p.client ≡ c
   pub weight : p.knows.weight ≡ 2 ^ 32
   pub ended : p.stopped ≡ false → p.next ≡ script_length scripts c
+  pub short : p.stopped ≡ true → p.next < script_length scripts c
 
 abbrev pub ArePlayers : Scripts → ℕ → List Client → Type 0
 ArePlayers scripts first ps = (i : ℕ) (d : Client) → i < length ps → IsPlayer scripts (first + i) (slice_index_or ps i d)
@@ -74,6 +75,10 @@ players_after setting desk before after recorder opened played i d less =
       client = now.same.client ∙ ap (λ (p : Client). p.client) was ∙ sym number;
       weight = now.kept.weight ∙ ap (λ (p : Client). p.knows.weight) was;
       ended = λ runs. now.ended runs ∙ now.same.lines ∙ ap (λ (p : Client). p.lines) was ∙ ap (script_length setting.scripts) (sym number);
+      short = λ stops.
+          let left = now.short (ap (λ (p : Client). p.stopped) was) stops in
+          let all = now.same.lines ∙ ap (λ (p : Client). p.lines) was ∙ ap (script_length setting.scripts) (sym number) in
+          omega (arith, left, all);
     }
 
 rest_of : (scripts : Scripts) (first : ℕ) (p : Client) (ps : List Client) → ArePlayers scripts first (p ∷ ps) → ArePlayers scripts (suc first) ps
@@ -106,6 +111,18 @@ lines_by_client scripts first (p ∷ ps) c are run low high = elim (cases_lt fir
       let same : c ≡ first = omega (arith, low, le) in
       made_by-here c (p.client, p.next) (lines_made ps) (same ∙ sym player.client) ∙ ap Some (player.ended (run 0 p (omega arith)) ∙ ap (script_length scripts) (sym same))
 ]
+
+-- what each has made
+made_at : (scripts : Scripts) (first : ℕ) (ps : List Client) (k : ℕ) (d : Client) → ArePlayers scripts first ps → k < length ps → made_by (first + k) (lines_made ps) ≡ Some (slice_index_or ps k d).next
+made_at scripts first [] k d are less = absurd (omega (arith, less))
+made_at scripts first (p ∷ ps) zero d are less =
+    let player = head_of scripts first p ps are in
+    made_by-here (first + 0) (p.client, p.next) (lines_made ps) (omega (arith, player.client))
+made_at scripts first (p ∷ ps) (suc k) d are less =
+    let player = head_of scripts first p ps are in
+    let number : suc first + k ≡ first + suc k = omega arith in
+    made_by-later (first + suc k) (p.client, p.next) (lines_made ps) (λ e. let n = player.client in omega (arith, e, n))
+    ∙ subst (λ (c : ℕ). made_by c (lines_made ps) ≡ Some (slice_index_or ps k d).next) number (made_at scripts (suc first) ps k d (rest_of scripts first p ps are) (omega (arith, less)))
 
 -- ---- the closed session
 
@@ -170,15 +187,34 @@ module _ (setting : Setting) (clients : List Client) (recorder whole : Standing)
         all_within scripts h lawful.begins c le ∙ ap (range_with_len 0) (sym none)
   ]
 
+  -- one that stopped has made too few of them
+  misses : Any (λ p. p.stopped ≡ true) clients → ¬ Merges scripts h
+  misses some all =
+      let n : ℕ = length scripts in
+      let c : ℕ = some.0 in
+      let p : Client = slice_index_or clients c some.1 in
+      let in_all = some.2 in
+      let less : c < length scripts = omega (arith, in_all, is.many) in
+      let number : 0 + c ≡ c = omega arith in
+      let made : length (indexes_of h c) ≡ p.next =
+      some_is (length (indexes_of h c)) p.next
+      (sym (closed.lines c (subst (λ (s : Setting). c < length s.scripts) (sym is.setting_is) less)) ∙ ap (made_by c) is.made
+      ∙ made_by-later c (n, takes recorder.knows.seen) (lines_made clients) (λ e. omega (arith, e, less))
+      ∙ subst (λ (i : ℕ). made_by i (lines_made clients) ≡ Some p.next) number (made_at scripts 0 clients c some.1 is.players in_all)) in
+      let whole : length (indexes_of h c) ≡ script_length scripts c = ap length (all c) ∙ length-range_with_len 0 (script_length scripts c) in
+      let few : p.next < script_length scripts c = subst (λ (i : ℕ). p.next < script_length scripts i) number ((is.players c some.1 in_all).short (ap (λ (q : Client). q.stopped) some.3 ∙ some.4)) in
+      absurd (omega (arith, made, whole, few))
+
   pub seen_begin : (rest : List Raster) × (pictures setting.size scripts h ≡ seen_pictures recorder.knows ++ rest)
   seen_begin =
       let more = pictures_more setting.size scripts recorder.knows.seen h (begins_then recorder.knows.seen whole.knows.seen h is.begins closed.begins) in
       (more.0, more.1 ∙ ap (λ (s : Setting). pictures s.size s.scripts recorder.knows.seen ++ more.0) (sym is.same))
 
-  pub is_order : (lost : Bool) (answer : RecordEnd) → (lost ≡ false → All (λ p. p.stopped ≡ false) clients) → ((written : ℕ) → answer ≡ end.Ok written → takes h ≡ all_cuts scripts) → IsOrder scripts h lost answer
-  is_order lost answer run all = record {
+  pub is_order : (lost : Bool) (answer : RecordEnd) → (lost ≡ false → All (λ p. p.stopped ≡ false) clients) → (lost ≡ true → Any (λ p. p.stopped ≡ true) clients) → ((written : ℕ) → answer ≡ end.Ok written → takes h ≡ all_cuts scripts) → IsOrder scripts h lost answer
+  is_order lost answer run gave_up all = record {
     lawful = lawful;
     merges = λ none. merges (run none);
+    misses = λ some. misses (gave_up some);
     played = λ written none ok. record {
       lawful = lawful;
       merges = merges (run none);

@@ -1,5 +1,5 @@
 -- Clients that play, and their passes after that.
-use Rattle.std.specs.Prelude.{◌≡◌, ℕ, ◌+◌, ◌<◌, List, ◌++◌, length, map, sum_by, false, slice_index_or}
+use Rattle.std.specs.Prelude.{◌≡◌, ℕ, ◌+◌, ◌<◌, List, ◌++◌, length, map, sum_by, true, false, slice_index_or}
 use Rattle.atomic_table.specs.Seated.{TableId}
 use Rattle.turn_lock.specs.Turns.{Begins}
 use Rattle.turn_lock.specs.Standing.{Standing}
@@ -11,13 +11,14 @@ use Rattle.live_desk.specs.Turned.{IsKept}
 abbrev pub IsAt : TableId → Client → Type 0
 IsAt desk client = client.table ≡ desk
 
--- The client played as far as it got: to its script's end, if it isn't stopped.
+-- The client played as far as it got: to its script's end, if it isn't stopped, and not so far where it was stopped now.
 pub record HasEnded (desk : TableId) (old new : Client) : Type 0 where
   pub at : IsAt desk new
   pub same : IsSameClient old new
   pub kept : IsKept old.knows new.knows
   pub begins : Begins old.knows.seen new.knows.seen
   pub ended : new.stopped ≡ false → new.next ≡ new.lines
+  pub short : old.stopped ≡ false → new.stopped ≡ true → new.next < new.lines
 
 -- each of these clients did
 pub record HaveEnded (desk : TableId) (before after : List Client) : Type 0 where

@@ -1,5 +1,5 @@
 -- A session: what is recorded, and how.
-use Rattle.std.specs.Prelude.{◌≡◌, ℕ, List, sum_by, count_by, Bool, false}
+use Rattle.std.specs.Prelude.{◌≡◌, ℕ, List, sum_by, count_by, Bool, true, false}
 use Rattle.h265_model.specs.declared.entry.Entry.{Entry}
 use Rattle.h265_model.specs.declared.line.Line.{Line}
 use Rattle.h265_model.specs.Script.{is_cut}
@@ -18,8 +18,9 @@ pub record Scripted : Type 0 where
 abbrev pub all_cuts : List (List Line) → ℕ
 all_cuts scripts = sum_by (count_by is_cut) scripts
 
--- The order is lawful. Where no client gave up, it has all lines, and with Ok each cut picture was taken.
+-- The order is lawful. It has all lines exactly where no client gave up, and with Ok each cut picture was then taken.
 pub record IsOrder (scripts : List (List Line)) (order : List Entry) (lost : Bool) (answer : RecordEnd) : Type 0 where
   pub lawful : IsLawful scripts order
   pub merges : lost ≡ false → Merges scripts order
+  pub misses : lost ≡ true → ¬ Merges scripts order
   pub played : (written : ℕ) → lost ≡ false → answer ≡ end.Ok written → IsPlayed scripts order

@@ -1,6 +1,6 @@
 //! Clients that play their scripts.
 ghost use Rattle.std.specs.Prelude.{◌≡◌, ◌<◌, ◌≤◌, ◌^◌, List, length, true, false, slice_index_or, OnOk, OnErr};
-ghost use Rattle.std.specs.List.{All};
+ghost use Rattle.std.specs.List.{All, Any};
 ghost use Rattle.turn_lock.specs.Turns.{Begins};
 ghost use Rattle.live_desk.specs.Passes.{Client};
 ghost use Rattle.live_desk.specs.Desks.{IsSameClient};
@@ -30,8 +30,10 @@ pub fn play_all<R: Wait, G: Gate>(
     ensures kept { IsKept pass.old.knows pass.new.knows }
     ensures begins { Begins pass.old.knows.seen pass.new.knows.seen }
     ensures done { OnOk result (pass.new.next ≡ pass.new.lines) }
+    ensures runs { OnOk result (pass.old.stopped ≡ false → pass.new.stopped ≡ false) }
     ensures lost { OnErr result (pass.new.knows.saw ≡ true) }
     ensures stopped { OnErr result (pass.new.stopped ≡ true) }
+    ensures left { OnErr result (pass.new.next < pass.new.lines) }
 {
     for _ in rt.forever() {
         let index = pass.next();
@@ -95,7 +97,8 @@ pub(crate) fn play_clients<R: Threads + Wait + Sync, G: Gate + Sync>(
 
 // Whether a client met want of memory.
 pub(crate) fn any_stopped(clients: &[ClientPass]) -> bool
-    ensures { result ≡ false → All (λ pass. pass.stopped ≡ false) clients.now }
+    ensures none { result ≡ false → All (λ pass. pass.stopped ≡ false) clients.now }
+    ensures some { result ≡ true → Any (λ pass. pass.stopped ≡ true) clients.now }
 {
     clients.iter().any(|pass| pass.is_stopped())
 }

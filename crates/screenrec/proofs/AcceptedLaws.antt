@@ -1,6 +1,6 @@
 -- Files one after another, and whether their scripts are accepted.
-use Rattle.std.proofs.Common.{◌≡◌, ℕ, zero, suc, ◌+◌, ◌-◌, ◌<◌, ◌≤◌, Bool, true, false, cond, List, [], ◌∷◌, ◌++◌, length, take, take_all, Option, Some, None, Result, Ok, Err, refl, sym, ◌∙◌, ap, subst, arith}
-use Rattle.std.specs.Prelude.{count_by, sum_by, nat_lt, slice_index_or, IsOk, is_ok}
+use Rattle.std.proofs.Common.{◌≡◌, ℕ, zero, suc, ◌+◌, ◌<◌, ◌≤◌, true, false, List, [], ◌∷◌, ◌++◌, length, take, take_all, Option, Some, None, Result, Ok, Err, refl, sym, ◌∙◌, ap, subst, arith}
+use Rattle.std.specs.Prelude.{count_by, nat_lt, slice_index_or, IsOk, is_ok}
 use Rattle.std.specs.Borrow.{Bor}
 use Rattle.std.proofs.lemmas.List.{take_more}
 use Rattle.std.proofs.lemmas.Bool.Decides.{nat_tests}
@@ -8,7 +8,7 @@ use Rattle.std.proofs.lemmas.List.Sums.{sum_by-cons}
 use Rattle.h265_model.specs.declared.refusal.Cause.{Cause}
 use Rattle.h265_model.specs.declared.refusal.LimitKind.TheVariants.{Lines, Cuts}
 use Rattle.h265_model.specs.declared.line.Line.{Line}
-use Rattle.h265_model.specs.Script.{BadLine, script_of, is_cut, ◌>>-◌}
+use Rattle.h265_model.specs.Script.{script_of, is_cut, ◌>>-◌}
 use Rattle.h265_model.specs.Files.{Files, file_at, WhereTold}
 use Rattle.h265_model.specs.FileLaws.{told_on, told_same}
 use Rattle.h265_model.specs.Headline.{most_bytes, most_lines, most_cuts, Refusal, TooLarge, BadPaint, Limit, sized, in_file, within, scripts_after, scripts_of, contents}

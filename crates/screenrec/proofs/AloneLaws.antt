@@ -152,10 +152,11 @@ module _ (words : SerialWords) where
   leaves_whole script order written status.Ok x y kind within spelled own s = λ accepted. finished script order x y written within spelled own s accepted
   leaves_whole script order written status.ReportFault x y kind within spelled own s = λ accepted. finished script order x y written within spelled own s accepted
   leaves_whole script order written status.NoMemory x y kind within spelled own s = λ accepted.
-      inr (
-        broken script order x y written (IsPlayedInPart Alone) own own (whole_cut script x y written s) accepted,
-        s.counted ∙ holds x y words.out (stream_of words.settings (rasters_after words.settings.size [] script)) s.stored,
-      )
+      inr
+      (broken script order x y written (IsPlayedInPart Alone words.out y written) own
+      (own, s.counted ∙ holds x y words.out (stream_of words.settings (rasters_after words.settings.size [] script)) s.stored)
+      (whole_cut script x y written s)
+      accepted)
   leaves_whole script order written status.Usage x y kind within spelled own s = absurd kind
   leaves_whole script order written (status.BadPaint f l c) x y kind within spelled own s = absurd kind
   leaves_whole script order written (status.Limit w) x y kind within spelled own s = absurd kind
@@ -177,7 +178,7 @@ module _ (words : SerialWords) where
   leaves_stopped script order written write.Failed x y own s = λ accepted.
       inr (broken script order x y written (IsPlayedOut Alone) own own s accepted)
   leaves_stopped script order written write.NoMemory x y own s = λ accepted.
-      inr (broken script order x y written (IsPlayedInPart Alone) own own s.0 accepted, s.1)
+      inr (broken script order x y written (IsPlayedInPart Alone words.out y written) own (own, s.1) s.0 accepted)
 
   pub stopped_files : (a b : Option Files) (script : List Line) (order : List Entry) (written : ℕ) (error : WriteError) →
       order ≡ own_order (script ∷ []) → WhereTold a b (λ before after. EndsIn words.settings words.out script before after (Err error) written) →

@@ -1,5 +1,5 @@
 -- A file among others, put together from its bytes and the others.
-use Rattle.std.proofs.Common.{◌≡◌, ℕ, ◌+◌, List, [], ◌++◌, append_assoc, Option, Some, None, cond, refl, sym, ◌∙◌, ap, subst}
+use Rattle.std.proofs.Common.{◌≡◌, ℕ, ◌+◌, List, [], ◌++◌, length, append_assoc, Option, Some, None, cond, refl, sym, ◌∙◌, ap, subst}
 use Rattle.std.specs.Prelude.{option_map, slice_index_or}
 use Rattle.std.specs.Ordering.{nat_cmp, is_eq}
 use Rattle.std.specs.declared.cmp.Ordering.{Ordering}
@@ -51,20 +51,26 @@ in_file settings ps wanted taken out x y (end.SinkFault written) others there e 
   stored = grown_to x y out (first_pieces settings ps e.whole ++ e.told.0) others there empty (e.told.2 ∙ append_assoc (file_at x out) (first_pieces settings ps e.whole) e.told.0);
   counted = e.counted;
 }
-in_file settings ps wanted taken out x y (end.NoMemory written) others there e empty = record {
-  whole = e.whole;
-  part = [];
-  is_part = (slice_index_or (pieces settings ps) e.whole [], refl);
-  stored = grown_to x y out (first_pieces settings ps e.whole) others there empty e.told ∙ ap (insert x out) (sym (append-nil (first_pieces settings ps e.whole)));
-  counted = e.counted;
-}
-in_file settings ps wanted taken out x y (end.Ended written) others there e empty = record {
-  whole = e.whole;
-  part = [];
-  is_part = (slice_index_or (pieces settings ps) e.whole [], refl);
-  stored = grown_to x y out (first_pieces settings ps e.whole) others there empty e.told ∙ ap (insert x out) (sym (append-nil (first_pieces settings ps e.whole)));
-  counted = e.counted;
-}
+in_file settings ps wanted taken out x y (end.NoMemory written) others there e empty = (
+  record {
+    whole = e.whole;
+    part = [];
+    is_part = (slice_index_or (pieces settings ps) e.whole [], refl);
+    stored = grown_to x y out (first_pieces settings ps e.whole) others there empty e.told ∙ ap (insert x out) (sym (append-nil (first_pieces settings ps e.whole)));
+    counted = e.counted;
+  },
+  e.counted ∙ ap length (sym (e.told ∙ ap (λ (l : List ℕ). l ++ first_pieces settings ps e.whole) empty)),
+)
+in_file settings ps wanted taken out x y (end.Ended written) others there e empty = (
+  record {
+    whole = e.whole;
+    part = [];
+    is_part = (slice_index_or (pieces settings ps) e.whole [], refl);
+    stored = grown_to x y out (first_pieces settings ps e.whole) others there empty e.told ∙ ap (insert x out) (sym (append-nil (first_pieces settings ps e.whole)));
+    counted = e.counted;
+  },
+  e.counted ∙ ap length (sym (e.told ∙ ap (λ (l : List ℕ). l ++ first_pieces settings ps e.whole) empty)),
+)
 
 -- what a sink over the file tells of it
 pub sunk : (settings : Settings) (ps : List Raster) (wanted taken : ℕ) (a b : Option Files) (out now_out : List ℕ) (answer : RecordEnd) → IsThere b now_out →
@@ -102,5 +108,5 @@ ends_from settings out ps wanted taken x y z (end.Ok written) e s = record {
   stored = s.stored ∙ again x y out (first_pieces settings ps (wanted + 1)) e;
 }
 ends_from settings out ps wanted taken x y z (end.SinkFault written) e s = cut_short_from settings out ps x y z written e s
-ends_from settings out ps wanted taken x y z (end.NoMemory written) e s = cut_short_from settings out ps x y z written e s
-ends_from settings out ps wanted taken x y z (end.Ended written) e s = cut_short_from settings out ps x y z written e s
+ends_from settings out ps wanted taken x y z (end.NoMemory written) e s = (cut_short_from settings out ps x y z written e s.0, s.1)
+ends_from settings out ps wanted taken x y z (end.Ended written) e s = (cut_short_from settings out ps x y z written e s.0, s.1)

@@ -16,7 +16,7 @@ use Rattle.h265_model.specs.Raster.{Raster, HasColours, accepted_line, lines_of,
 use Rattle.h265_model.specs.Stream.{pieces, pieces_after, stream_of}
 use Rattle.h265_model.specs.Script.{is_cut}
 use Rattle.h265_model.specs.Report.{report_text}
-use Rattle.h265_model.specs.Histories.{IsLawful, cuts, paints, takes, take_numbers}
+use Rattle.h265_model.specs.Histories.{IsLawful, Merges, cuts, paints, takes, take_numbers}
 use Rattle.h265_model.specs.Headline.{IsPlayed, IsRecorded, IsCutShort, report_of}
 use Rattle.h265_model.specs.Files.{Files, file_at, IsPrefix, WhereTold}
 use Rattle.h265_model.specs.FileLaws.{told_on, file_at-insert}
@@ -37,7 +37,7 @@ use Rattle.screenrec.specs.declared.outcome.Status.TheVariants as status
 use Rattle.screenrec.specs.Accepted.{AreFew}
 use Rattle.screenrec.specs.Alone.{IsOfReport}
 use Rattle.screenrec.specs.Recording as recording
-use Rattle.screenrec.specs.Recording.{Together, record_task, scripts_in, IsFinished, IsBroken}
+use Rattle.screenrec.specs.Recording.{Together, IsPlayedInPart, IsWholePieces, record_task, scripts_in, IsFinished, IsBroken}
 use Rattle.screenrec.specs.Together.{written_of, recorded_status, EndsInFile, IsShortOrder, Reported, LeavesScripts}
 use Rattle.screenrec.proofs.AloneLaws.{count_both, colours_of}
 use Rattle.screenrec.proofs.FileParts.{ends_from}
@@ -119,6 +119,14 @@ short_order scripts order false (end.SinkFault written) few is e = absurd (cc)
 short_order scripts order false (end.NoMemory written) few is e = absurd (cc)
 short_order scripts order false (end.Ended written) few is e = absurd (cc)
 
+-- where the status before the report is Ok, the order was played
+pub played_if_ok : (scripts : List (List Line)) (order : List Entry) (lost : Bool) (answer : RecordEnd) → IsOrder scripts order lost answer → recorded_status lost answer ≡ status.Ok → IsPlayed scripts order
+played_if_ok scripts order true answer is e = absurd (cc)
+played_if_ok scripts order false (end.Ok written) is e = is.played written refl refl
+played_if_ok scripts order false (end.SinkFault written) is e = absurd (cc)
+played_if_ok scripts order false (end.NoMemory written) is e = absurd (cc)
+played_if_ok scripts order false (end.Ended written) is e = absurd (cc)
+
 -- ---- the stream is decoded
 
 spelled_at : (lines : List Line) (index : ℕ) → AreSpellable lines → IsSpellable (slice_index_or lines index Cut)
@@ -184,8 +192,8 @@ module _ (words : RecordWords) (scripts : List (List Line)) (order : List Entry)
     counted = s.counted;
   }
   cut_short (end.SinkFault written) s = s
-  cut_short (end.NoMemory written) s = s
-  cut_short (end.Ended written) s = s
+  cut_short (end.NoMemory written) s = s.0
+  cut_short (end.Ended written) s = s.0
 
   finished : (written : ℕ) → AreWithin words → All AreSpellable scripts → IsPlayed scripts order → Stands (end.Ok written) → scripts_in (record_task words) x ≡ Ok scripts →
       IsFinished (record_task words) x z order written
@@ -207,15 +215,19 @@ module _ (words : RecordWords) (scripts : List (List Line)) (order : List Entry)
   }
 
   -- after want of memory
-  in_part : (answer : RecordEnd) (s : Status) → IsLawful scripts order → s ≡ status.NoMemory → Stands answer → LeavesScripts words scripts x z order (written_of answer) s
-  in_part answer s lawful e stands =
+  in_part : (answer : RecordEnd) (s : Status) → IsLawful scripts order → (Merges scripts order → IsWholePieces words.out z (written_of answer)) → s ≡ status.NoMemory → Stands answer →
+      LeavesScripts words scripts x z order (written_of answer) s
+  in_part answer s lawful whole e stands =
       subst (LeavesScripts words scripts x z order (written_of answer)) (sym e)
-      (λ accepted. inr (broken answer (recording.IsPlayedInPart Together) lawful tt stands accepted, tt))
+      (λ accepted. inr (broken answer (IsPlayedInPart Together words.out z (written_of answer)) lawful whole stands accepted))
+
+  whole_file : (written : ℕ) → Stands (end.Ok written) → IsWholePieces words.out z written
+  whole_file written s = s.counted ∙ ap length (sym (ap (λ (m : Files). file_at m words.out) s.stored ∙ file_at-insert x words.out (first_pieces words.settings ps (all_cuts scripts + 1))))
 
   reported : (written : ℕ) (s : Status) → IsOfReport s → AreWithin words → All AreSpellable scripts → IsPlayed scripts order → Stands (end.Ok written) → LeavesScripts words scripts x z order written s
   reported written status.Ok kind within spelled is s = λ accepted. finished written within spelled is s accepted
   reported written status.ReportFault kind within spelled is s = λ accepted. finished written within spelled is s accepted
-  reported written status.NoMemory kind within spelled is s = in_part (end.Ok written) status.NoMemory is.lawful refl s
+  reported written status.NoMemory kind within spelled is s = in_part (end.Ok written) status.NoMemory is.lawful (λ _. whole_file written s) refl s
   reported written status.Usage kind within spelled is s = absurd kind
   reported written (status.BadPaint f l c) kind within spelled is s = absurd kind
   reported written (status.Limit w) kind within spelled is s = absurd kind
@@ -227,13 +239,13 @@ module _ (words : RecordWords) (scripts : List (List Line)) (order : List Entry)
 
   leaves : (lost : Bool) (answer : RecordEnd) (s : Status) → AreWithin words → All AreSpellable scripts → IsOrder scripts order lost answer → Reported (recorded_status lost answer) s →
       Stands answer → LeavesScripts words scripts x z order (written_of answer) s
-  leaves true answer s within spelled is kind stands = in_part answer s is.lawful kind stands
+  leaves true answer s within spelled is kind stands = in_part answer s is.lawful (λ all. absurd (is.misses refl all)) kind stands
   leaves false (end.Ok written) s within spelled is kind stands = reported written s kind within spelled (is.played written refl refl) stands
   leaves false (end.SinkFault written) s within spelled is kind stands =
       subst (LeavesScripts words scripts x z order written) (sym kind)
       (λ accepted. inr (broken (end.SinkFault written) (recording.IsPlayedOut Together) is.lawful (is.merges refl) stands accepted))
-  leaves false (end.NoMemory written) s within spelled is kind stands = in_part (end.NoMemory written) s is.lawful kind stands
-  leaves false (end.Ended written) s within spelled is kind stands = in_part (end.Ended written) s is.lawful kind stands
+  leaves false (end.NoMemory written) s within spelled is kind stands = in_part (end.NoMemory written) s is.lawful (λ _. stands.1) kind stands
+  leaves false (end.Ended written) s within spelled is kind stands = in_part (end.Ended written) s is.lawful (λ _. stands.1) kind stands
 
 -- what stands once the file was made and the session was recorded into it
 pub recorded_files : (words : RecordWords) (scripts : List (List Line)) (order found : List Entry) (written : ℕ) (settings : Settings) (played : List (List Line)) (a b c : Option Files)

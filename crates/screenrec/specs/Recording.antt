@@ -31,15 +31,15 @@ abbrev pub IsPlayedOut : Playing → List (List Line) → List Entry → Type 0
 IsPlayedOut Alone scripts order = order ≡ own_order scripts
 IsPlayedOut Together scripts order = Merges scripts order
 
--- the orders after want of memory: a script alone has its order from the start; of several clients some lines were played
-abbrev pub IsPlayedInPart : Playing → List (List Line) → List Entry → Type 0
-IsPlayedInPart Alone scripts order = order ≡ own_order scripts
-IsPlayedInPart Together scripts order = Unit {0}
+-- no piece stands in part: OUT has just the bytes that were counted
+abbrev pub IsWholePieces : List ℕ → Files → ℕ → Type 0
+IsWholePieces out after written = written ≡ length (file_at after out)
 
--- After want of memory no piece stands in part, where a script is played alone: OUT has just the bytes that were counted.
-abbrev pub IsWholePieces : Playing → List ℕ → Files → ℕ → Type 0
-IsWholePieces Alone out after written = written ≡ length (file_at after out)
-IsWholePieces Together out after written = Unit {0}
+-- The orders after want of memory: a script alone has its order from the start, and pieces stand whole. Of several clients some lines were played;
+-- where all were, no client met want of memory, and pieces stand whole, since a fault of the stream would have been answered before it.
+abbrev pub IsPlayedInPart : Playing → List ℕ → Files → ℕ → List (List Line) → List Entry → Type 0
+IsPlayedInPart Alone out after written scripts order = (order ≡ own_order scripts) × IsWholePieces out after written
+IsPlayedInPart Together out after written scripts order = Merges scripts order → IsWholePieces out after written
 
 -- ---- what is recorded
 
@@ -103,7 +103,7 @@ module _ (task : Task) (before after : Files) (order : List Entry) (written : �
   LeavesTask status.SinkFault = IsNotMade ⊎ IsBroken (IsPlayedOut task.playing)
   LeavesTask status.ReportFault = IsFinished
   LeavesTask status.NoMemory =
-      IsUntouched order before after written ⊎ (IsBroken (IsPlayedInPart task.playing) × IsWholePieces task.playing task.out after written)
+      IsUntouched order before after written ⊎ IsBroken (IsPlayedInPart task.playing task.out after written)
   LeavesTask (status.TooLarge file) = IsRefused (TooLarge file)
   LeavesTask (status.BadStream at) = ⊥
   LeavesTask (status.NotBuilt form) = ⊥
@@ -216,14 +216,14 @@ IsComplete (Plays number) before counts counts_now answer = NoneRose counts coun
 IsComplete NoRow before counts counts_now answer = Unit {0}
 IsComplete (NotYet form) before counts counts_now answer = Unit {0}
 
--- ---- a demo by itself, which has no files
+-- ---- a demo, which has no files: over any shelf
 
 -- the report of a demo
 abbrev pub TellsDemo : Service → List ℕ → List ℕ → Status → List Entry → ℕ → Type 0
 TellsDemo (Plays number) was now answer order written = ReportsDemo number was now answer order written
 TellsDemo NoRow was now answer order written = now ≡ was
 TellsDemo (NotYet form) was now answer order written = now ≡ was
-TellsDemo (Does task) was now answer order written = now ≡ was
+TellsDemo (Does task) was now answer order written = Unit {0}
 
 -- where the report's count didn't rise, the answer is Ok, but for want of memory
 abbrev pub IsCompleteDemo : Service → ℕ → ℕ → Status → Type 0

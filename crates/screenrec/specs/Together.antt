@@ -13,7 +13,7 @@ use Rattle.recorder.specs.Ends.{first_pieces}
 use Rattle.screenrec.specs.declared.outcome.Status.{Status}
 use Rattle.screenrec.specs.declared.outcome.Status.TheVariants as status
 use Rattle.screenrec.specs.Alone.{IsOfReport}
-use Rattle.screenrec.specs.Recording.{record_task, scripts_in, LeavesTask}
+use Rattle.screenrec.specs.Recording.{IsWholePieces, record_task, scripts_in, LeavesTask}
 
 -- ---- the end of a recording
 
@@ -42,8 +42,8 @@ pub record IsWholeFile (settings : Settings) (out : List ℕ) (ps : List Raster)
 abbrev pub EndsInFile : Settings → List ℕ → List Raster → ℕ → ℕ → Files → Files → RecordEnd → Type 0
 EndsInFile settings out ps wanted taken before after (end.Ok written) = IsWholeFile settings out ps wanted taken written before after
 EndsInFile settings out ps wanted taken before after (end.SinkFault written) = IsCutShort settings out ps before after written
-EndsInFile settings out ps wanted taken before after (end.NoMemory written) = IsCutShort settings out ps before after written
-EndsInFile settings out ps wanted taken before after (end.Ended written) = IsCutShort settings out ps before after written
+EndsInFile settings out ps wanted taken before after (end.NoMemory written) = IsCutShort settings out ps before after written × IsWholePieces out after written
+EndsInFile settings out ps wanted taken before after (end.Ended written) = IsCutShort settings out ps before after written × IsWholePieces out after written
 
 -- ---- its report
 

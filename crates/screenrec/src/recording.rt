@@ -4,7 +4,7 @@ ghost use Rattle.h265_model.specs.Files.{WhereTold};
 ghost use Rattle.h265_model.specs.Words.{row_of};
 ghost use Rattle.command_line.specs.Views.{texts};
 ghost use Rattle.screenrec.specs.Answers.{counts, HasCauses, IsSilent};
-ghost use Rattle.screenrec.specs.Recording.{run_service, Answers, RefusesEmpty, NamesFile, Leaves, Reports, IsComplete};
+ghost use Rattle.screenrec.specs.Recording.{run_service, Answers, RefusesEmpty, NamesFile, Leaves, Reports, IsComplete, TellsDemo, IsCompleteDemo};
 
 use crate::alone::serve;
 use crate::demo::serve_demo;
@@ -55,6 +55,10 @@ pub fn run<R: Threads + Wait + Sync, F: Shelf + Send, K: Sink, G: Gate + Sync>(
         (counts (F.read_faults shelf.old) (F.write_faults shelf.old) (K.faults report.old))
         (counts (F.read_faults shelf.new) (F.write_faults shelf.new) (K.faults report.new))
         result.status) }
+    // A demo has no files: its report and that it is complete hang on no shelf.
+    ensures told { WhereTold (K.text report.old) (K.text report.new) (λ was now.
+        TellsDemo (run_service (row_of (texts words.now))) was now result.status result.order result.written) }
+    ensures played { IsCompleteDemo (run_service (row_of (texts words.now))) (K.faults report.old) (K.faults report.new) result.status }
 {
     match read_words(words) {
         None => Outcome::refused(alloc, Status::Usage),

@@ -1,3 +1,4 @@
+use Rattle.std.proofs.Common.{◌≡◌, false}
 use Rattle.turn_lock.specs.Turns.{Begins}
 use Rattle.live_desk.specs.Desks.{IsSameClient}
 use Rattle.live_desk.specs.Turned.{IsKept}
@@ -10,4 +11,5 @@ invariant-loop g l = record {
   same : IsSameClient l.initial.pass l.pass;
   kept : IsKept l.initial.pass.knows l.pass.knows;
   begins : Begins l.initial.pass.knows.seen l.pass.knows.seen;
+  runs : l.initial.pass.stopped ≡ false → l.pass.stopped ≡ false;
 }

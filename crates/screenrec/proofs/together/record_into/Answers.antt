@@ -1,4 +1,4 @@
-use Rattle.std.proofs.Common.{◌≡◌, [], List, ℕ, Option, rules, sym, ap, subst}
+use Rattle.std.proofs.Common.{◌≡◌, [], Option, rules, subst}
 use Rattle.h265_model.specs.Files.{Files, file_at, WhereTold}
 use Rattle.h265_model.specs.Raster.{pictures}
 use Rattle.h265_model.specs.Histories.{takes}

@@ -1,9 +1,12 @@
-use Rattle.std.proofs.Common.{List, sym, subst}
+use Rattle.std.proofs.Common.{ℕ, List, sym, subst}
+use Rattle.h265_model.specs.declared.entry.Entry.{Entry}
 use Rattle.h265_model.specs.declared.line.Line.{Line}
+use Rattle.h265_model.specs.Files.{WhereTold}
 use Rattle.edges.specs.Sunk.{is_made}
 use Rattle.recorder.specs.Sessions.{IsOrder}
 use Rattle.screenrec.specs.Served.{record_view}
-use Rattle.screenrec.proofs.TogetherLaws.{few_in_all, short_order, recorded_files}
+use Rattle.screenrec.specs.Together.{ReportsOrder}
+use Rattle.screenrec.proofs.TogetherLaws.{few_in_all, short_order, played_if_ok, recorded_files}
 use Rattle.screenrec.proofs.together.record_scripts.Goals as goal
 
 pub new-requires-clause-few : goal.new-requires-clause-few
@@ -19,6 +22,14 @@ finish-requires g c = record {
       (subst (λ (l : List (List Line)). IsOrder l c.record_into-recording.result.order.items c.record_into-recording.result.lost c.record_into-recording.result.end)
       c.in-Ok.ensures.scripts c.record_into-recording.ensures.order);
 }
+
+pub returns-clause-text : goal.returns-clause-text
+returns-clause-text g c =
+    let recording = c.record_into-recording.result in
+    let is = subst (λ (l : List (List Line)). IsOrder l recording.order.items recording.lost recording.end) c.in-Ok.ensures.scripts c.record_into-recording.ensures.order in
+    subst (λ (x : List Entry × ℕ). WhereTold (g.K.Sink.text c.args.report.now) (g.K.Sink.text c.finish.new.report) (λ was now. ReportsOrder c.args.scripts x.0 x.1 was now c.finish.result.status))
+    (λ i. (sym c.finish.ensures.order i, sym c.finish.ensures.written i))
+    (c.finish.ensures.text c.args.scripts (played_if_ok c.args.scripts recording.order.items recording.lost recording.end is))
 
 pub returns-clause-files : goal.returns-clause-files
 returns-clause-files g c =

@@ -1,4 +1,4 @@
-use Rattle.std.proofs.Common.{sym, rules, arith}
+use Rattle.std.proofs.Common.{sym}
 use Rattle.screenrec.proofs.TogetherLaws.{line_takes, take_takes}
 use Rattle.screenrec.proofs.together.taken.Goals as goal
 

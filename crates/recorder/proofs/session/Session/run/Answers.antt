@@ -1,5 +1,5 @@
-use Rattle.std.proofs.Common.{◌≡◌, ◌∙◌, subst, List, false}
-use Rattle.std.specs.List.{All}
+use Rattle.std.proofs.Common.{◌≡◌, ◌∙◌, subst, List, true, false}
+use Rattle.std.specs.List.{All, Any}
 use Rattle.live_desk.specs.Passes.{Client}
 use Rattle.recorder.proofs.Seen.{lawful_now}
 use Rattle.h265_model.specs.Raster.{pictures}
@@ -24,7 +24,8 @@ returns-clause-order g c =
     let answer = c.play_and_record-end.result in
     subst (λ (s : Scripted). IsOrder s.scripts c.close.result.items c.any_stopped-lost.result answer) c.self.view_is
     (is_order setting clients recorder whole c.close.result.items is c.close.ensures c.any_stopped-lost.result answer
-    (λ none. subst (λ (l : List Client). All (λ p. p.stopped ≡ false) l) c.deref.ensures.value (c.any_stopped-lost.ensures none))
+    (λ none. subst (λ (l : List Client). All (λ p. p.stopped ≡ false) l) c.deref.ensures.value (c.any_stopped-lost.ensures.none none))
+    (λ some. subst (λ (l : List Client). Any (λ p. p.stopped ≡ true) l) c.deref.ensures.value (c.any_stopped-lost.ensures.some some))
     (λ written ok. all_takes setting clients recorder whole c.close.result.items is c.close.ensures
     ∙ all_taken _ _ _ _ written _ _ answer ok c.play_and_record-end.ensures.ended ∙ c.self.invariant.4))
 
