@@ -140,7 +140,7 @@ impl Desk {
         requires desk { pass.old.table ≡ self.now }
         ensures { HasAnswered pass.old pass.new result }
     {
-        let state = self.turn.enter(rt, &mut pass.pass);
+        let state: DeskState = self.turn.enter(rt, &mut pass.pass);
         take_one(&self.turn, &mut pass.pass, state)
     }
 
