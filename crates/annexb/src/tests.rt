@@ -1,5 +1,6 @@
 //! Bytes of the standard's grammar, as tables.
 use crate::{UnitsError, append_unit, escape, units};
+use h265_model::NoMemory;
 use std::test::Fail;
 
 #[test]
@@ -111,5 +112,19 @@ fn reads_back(rt: HostRuntime) -> Result<(), Fail> {
         assert_eq!(rt; unit.header, [0x28, 1]);
         assert_eq!(rt; unit.rbsp.as_slice(), rbsp);
     }
+    Ok(())
+}
+
+#[test]
+fn errors_in_words(rt: HostRuntime) -> Result<(), Fail> {
+    let alloc = rt.alloc();
+    let rows = [
+        (UnitsError::BadUnit { at: 70 }, "no NAL unit at byte 70"),
+        (UnitsError::NoMemory, "no memory"),
+    ];
+    for (error, text) in rows {
+        assert_eq!(rt; format!(in alloc; "{error}")?.as_str(), text);
+    }
+    assert_eq!(rt; format!(in alloc; "{}", NoMemory)?.as_str(), "no memory");
     Ok(())
 }
