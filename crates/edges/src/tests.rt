@@ -262,3 +262,24 @@ fn standard_output(rt: HostRuntime) -> Result<(), Fail> {
     assert_eq!(rt; StreamSink::new(&Trickle { most: 0 }).write(b""), Ok(()));
     Ok(())
 }
+
+#[test]
+fn errors_in_words(rt: HostRuntime) -> Result<(), Fail> {
+    let alloc = rt.alloc();
+    let rows = [
+        (ReadError::Failed, "the file cannot be read"),
+        (ReadError::TooLarge, "the file is too large"),
+        (ReadError::NoMemory, "no memory"),
+    ];
+    for (error, text) in rows {
+        assert_eq!(rt; format!(in alloc; "{error}")?.as_str(), text);
+    }
+    let rows = [
+        (WriteError::Failed, "the piece cannot be written"),
+        (WriteError::NoMemory, "no memory"),
+    ];
+    for (error, text) in rows {
+        assert_eq!(rt; format!(in alloc; "{error}")?.as_str(), text);
+    }
+    Ok(())
+}

@@ -1,6 +1,6 @@
 -- Small pictures, computed.
 use Rattle.std.proofs.Common.{◌≡◌, refl, ℕ, List, [], ◌∷◌}
-use Rattle.std.specs.Prelude.{Option, Some, None, map, nat_lt, ◌==◌, ◌%◌, ◌&&◌, if◌then◌else◌}
+use Rattle.std.specs.Prelude.{Option, Some, None, get_or, ◌+◌, ◌-◌, map, nat_lt, ◌==◌, ◌%◌, ◌&&◌, if◌then◌else◌}
 use Rattle.h265_model.specs.declared.leaf.SliceKind.{SliceKind}
 use Rattle.h265_model.specs.declared.leaf.SliceKind.TheVariants.{I, P}
 use Rattle.h265_model.specs.declared.leaf.Leaf.{Leaf}
@@ -49,6 +49,20 @@ striped component x y =
 pub striped_choice : choice None striped (size_of 8 16) 1 0 ≡ leaf 0 0 3 Pcm ∷ leaf 0 8 3 (Intra 26) ∷ []
 unfolding choice leaf_plan intra_cost pcm_cost is_copy modes_of predict references is_filtered neighbours coding_order angle inverse_angle u digits_up_to value_after read_u read_alignment
 striped_choice = refl
+
+-- grey from 0 to 4 along the diagonals of the right block, which mode 2 predicts without a residual from its smoothed neighbours on the left
+abbrev slanted : Picture
+slanted component x y =
+    if nat_lt x 8 then (if nat_lt y 4 then 0 else 4)
+    else get_or (0 ∷ 0 ∷ 1 ∷ 3 ∷ []) (x - 8 + y) 4
+
+pub slanted_choice : choice None slanted (size_of 16 8) 2 0 ≡ leaf 0 0 3 Pcm ∷ leaf 8 0 3 (Intra 2) ∷ []
+unfolding choice leaf_plan intra_cost pcm_cost is_copy modes_of predict references is_filtered neighbours coding_order angle inverse_angle u digits_up_to value_after read_u read_alignment
+slanted_choice = refl
+
+pub slanted_cost : leaf_plan None slanted (size_of 16 8) 2 8 0 3 ≡ record { cost = 8; leaves = leaf 8 0 3 (Intra 2) ∷ [] }
+unfolding choice leaf_plan intra_cost pcm_cost is_copy modes_of predict references is_filtered neighbours coding_order angle inverse_angle u digits_up_to value_after read_u read_alignment
+slanted_cost = refl
 
 -- what the rows of a picture of one row give when they are read
 abbrev planes_read : SliceKind → Size → Picture → List ℕ → Option (List (List ℕ))

@@ -99,6 +99,15 @@ another_set_header : decode (vps ++ vps ++ pps ++ grey) ≡ Err 1
 unfolding digits_up_to u ue value_after bytes read_u read_ue_after read_alignment intra_cost pcm_cost is_copy modes_of leaf_plan choice closing put_bin code contexts_after start lps_range next row_start read_pictures start_codes decode engine_start doublings renormalised context_read bypass_read terminate_read aligned samples is_done fields_bits read_fields candidates mode_items mode_read escape_after unescape_after stream_bytes payload forbidden next_start units_within units profile_tier_level vps_front vps_back sps_formats sps_front size_fields sps_back pps_fields param_units read_size read_params coding_order neighbours is_filtered references angle inverse_angle predict colour raster lines_of rasters_after coded_picture stored_picture crop block_of rebuild scan scan_kind last_context sub_block_context sig_context greater1_context greater2_context cbf in_coding_order in_rows residual_items residual_read contexts_at cut_after substreams row_read read_rows head_front head_middle head_bits read_offsets read_head slice_piece picture_piece pieces_after pieces stream_of split_context skip_context candidates_at coding_unit_items ctu_items source_of items_of_row coding_unit_read ctu_read read_row
 another_set_header = refl
 
+-- max_transform_hierarchy_depth_inter and max_transform_hierarchy_depth_intra 1: transform blocks could be split
+split_transforms_inter : decode (vps ++ (0x00 ∷ 0x00 ∷ 0x00 ∷ 0x01 ∷ 0x42 ∷ 0x01 ∷ 0x01 ∷ 0x24 ∷ 0x08 ∷ 0x00 ∷ 0x00 ∷ 0x03 ∷ 0x00 ∷ 0xBE ∷ 0x08 ∷ 0x00 ∷ 0x00 ∷ 0x03 ∷ 0x00 ∷ 0x00 ∷ 0x9C ∷ 0x90 ∷ 0x24 ∷ 0x4B ∷ 0x2D ∷ 0x77 ∷ 0x22 ∷ 0x8B ∷ 0xBD ∷ 0xD2 ∷ 0xE2 ∷ 0x6E ∷ 0x02 ∷ 0x1A ∷ 0x00 ∷ 0x01 ∷ []) ++ pps ++ grey) ≡ Err 1
+unfolding digits_up_to u ue value_after bytes read_u read_ue_after read_alignment intra_cost pcm_cost is_copy modes_of leaf_plan choice closing put_bin code contexts_after start lps_range next row_start read_pictures start_codes decode engine_start doublings renormalised context_read bypass_read terminate_read aligned samples is_done fields_bits read_fields candidates mode_items mode_read escape_after unescape_after stream_bytes payload forbidden next_start units_within units profile_tier_level vps_front vps_back sps_formats sps_front size_fields sps_back pps_fields param_units read_size read_params coding_order neighbours is_filtered references angle inverse_angle predict colour raster lines_of rasters_after coded_picture stored_picture crop block_of rebuild scan scan_kind last_context sub_block_context sig_context greater1_context greater2_context cbf in_coding_order in_rows residual_items residual_read contexts_at cut_after substreams row_read read_rows head_front head_middle head_bits read_offsets read_head slice_piece picture_piece pieces_after pieces stream_of split_context skip_context candidates_at coding_unit_items ctu_items source_of items_of_row coding_unit_read ctu_read read_row
+split_transforms_inter = refl
+
+split_transforms_intra : decode (vps ++ (0x00 ∷ 0x00 ∷ 0x00 ∷ 0x01 ∷ 0x42 ∷ 0x01 ∷ 0x01 ∷ 0x24 ∷ 0x08 ∷ 0x00 ∷ 0x00 ∷ 0x03 ∷ 0x00 ∷ 0xBE ∷ 0x08 ∷ 0x00 ∷ 0x00 ∷ 0x03 ∷ 0x00 ∷ 0x00 ∷ 0x9C ∷ 0x90 ∷ 0x24 ∷ 0x4B ∷ 0x2D ∷ 0x77 ∷ 0x25 ∷ 0x0B ∷ 0xBD ∷ 0xD2 ∷ 0xE2 ∷ 0x6E ∷ 0x02 ∷ 0x1A ∷ 0x00 ∷ 0x01 ∷ []) ++ pps ++ grey) ≡ Err 1
+unfolding digits_up_to u ue value_after bytes read_u read_ue_after read_alignment intra_cost pcm_cost is_copy modes_of leaf_plan choice closing put_bin code contexts_after start lps_range next row_start read_pictures start_codes decode engine_start doublings renormalised context_read bypass_read terminate_read aligned samples is_done fields_bits read_fields candidates mode_items mode_read escape_after unescape_after stream_bytes payload forbidden next_start units_within units profile_tier_level vps_front vps_back sps_formats sps_front size_fields sps_back pps_fields param_units read_size read_params coding_order neighbours is_filtered references angle inverse_angle predict colour raster lines_of rasters_after coded_picture stored_picture crop block_of rebuild scan scan_kind last_context sub_block_context sig_context greater1_context greater2_context cbf in_coding_order in_rows residual_items residual_read contexts_at cut_after substreams row_read read_rows head_front head_middle head_bits read_offsets read_head slice_piece picture_piece pieces_after pieces stream_of split_context skip_context candidates_at coding_unit_items ctu_items source_of items_of_row coding_unit_read ctu_read read_row
+split_transforms_intra = refl
+
 -- a parameter set that comes again, among the three and after them
 sps_twice : decode (vps ++ sps_8x8 ++ sps_8x8 ++ pps ++ grey) ≡ Err 2
 unfolding digits_up_to u ue value_after bytes read_u read_ue_after read_alignment intra_cost pcm_cost is_copy modes_of leaf_plan choice closing put_bin code contexts_after start lps_range next row_start read_pictures start_codes decode engine_start doublings renormalised context_read bypass_read terminate_read aligned samples is_done fields_bits read_fields candidates mode_items mode_read escape_after unescape_after stream_bytes payload forbidden next_start units_within units profile_tier_level vps_front vps_back sps_formats sps_front size_fields sps_back pps_fields param_units read_size read_params coding_order neighbours is_filtered references angle inverse_angle predict colour raster lines_of rasters_after coded_picture stored_picture crop block_of rebuild scan scan_kind last_context sub_block_context sig_context greater1_context greater2_context cbf in_coding_order in_rows residual_items residual_read contexts_at cut_after substreams row_read read_rows head_front head_middle head_bits read_offsets read_head slice_piece picture_piece pieces_after pieces stream_of split_context skip_context candidates_at coding_unit_items ctu_items source_of items_of_row coding_unit_read ctu_read read_row

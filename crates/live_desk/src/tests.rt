@@ -3,7 +3,7 @@ ghost use Rattle.std.specs.Prelude.{◌≡◌, ◌-◌, ◌^◌, ◌<◌, ◌≤
 ghost use Rattle.paint_script.specs.Spellable.{IsSpellable};
 ghost use Rattle.desk_state.specs.Standing.{most_entries};
 
-use crate::{Accepted, Desk, Entry, NoMemory, PlayError, Scripts, Size, Taken};
+use crate::{Accepted, Desk, Entry, NoMemory, PlayError, Scripts, Size, Taken, TryPlayError};
 use h265_model::{Line, Rect, Rgb};
 use paint_script::Script;
 use std::alloc::Global;
@@ -131,5 +131,30 @@ fn a_cut_without_memory_ends_the_desk(rt: HostRuntime) -> Result<(), Fail> {
     let Taken::Ended { seen: 3 } = desk.take(&rt, &mut recorder) else {
         panic!(rt; "the desk has ended")
     };
+    Ok(())
+}
+
+#[test]
+fn errors_in_words(rt: HostRuntime) -> Result<(), Fail> {
+    let alloc = rt.alloc();
+    let rows = [
+        (PlayError::Done, "all lines are played"),
+        (PlayError::NoMemory, "no memory"),
+    ];
+    for (error, text) in rows {
+        assert_eq!(rt; format!(in alloc; "{error}")?.as_str(), text);
+    }
+    let (loaded, found) = (2, 3);
+    let rows = [
+        (TryPlayError::Done, "all lines are played"),
+        (
+            TryPlayError::Busy { loaded, found },
+            "the turn was not free",
+        ),
+        (TryPlayError::NoMemory, "no memory"),
+    ];
+    for (error, text) in rows {
+        assert_eq!(rt; format!(in alloc; "{error}")?.as_str(), text);
+    }
     Ok(())
 }

@@ -380,3 +380,27 @@ fn reads_numbers(rt: HostRuntime) {
         assert_eq!(rt; number_up_to(word.as_bytes(), most), number, "{word}");
     }
 }
+
+#[test]
+fn errors_in_words(rt: HostRuntime) -> Result<(), Fail> {
+    let alloc = rt.alloc();
+    let (line, cause) = (17, Cause::ZeroSize);
+    let rows = [
+        (
+            ScriptError::BadLine { line, cause },
+            "line 17 of the script: ZeroSize",
+        ),
+        (ScriptError::NoMemory, "no memory"),
+    ];
+    for (error, text) in rows {
+        assert_eq!(rt; format!(in alloc; "{error}")?.as_str(), text);
+    }
+    let full = AddError::Full(Script::empty(alloc));
+    assert_eq!(rt;
+        format!(in alloc; "{full}")?.as_str(),
+        "there are 64 scripts"
+    );
+    let refused = AddError::NoMemory(Script::empty(alloc));
+    assert_eq!(rt; format!(in alloc; "{refused}")?.as_str(), "no memory");
+    Ok(())
+}

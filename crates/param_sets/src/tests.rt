@@ -359,3 +359,13 @@ fn names_the_area(rt: HostRuntime) -> Result<(), Fail> {
     assert_eq!(rt; read_params(&sets), Err(BadParam { set: 1, field: 10 }));
     Ok(())
 }
+
+#[test]
+fn errors_in_words(rt: HostRuntime) -> Result<(), Fail> {
+    let error = BadParam { set: 2, field: 30 };
+    assert_eq!(rt;
+        format!(in rt.alloc(); "{error}")?.as_str(),
+        "field 30 of parameter set 2 differs"
+    );
+    Ok(())
+}

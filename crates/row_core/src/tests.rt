@@ -256,3 +256,13 @@ fn a_job_gives_its_bytes(rt: HostRuntime) -> Result<(), Fail> {
     assert_eq!(rt; bytes.as_slice(), inherited.as_slice());
     Ok(())
 }
+
+#[test]
+fn errors_in_words(rt: HostRuntime) -> Result<(), Fail> {
+    let error = NotLawful { event: Sync(1) };
+    assert_eq!(rt;
+        format!(in rt.alloc(); "{error}")?.as_str(),
+        "not lawful: Sync(1)"
+    );
+    Ok(())
+}

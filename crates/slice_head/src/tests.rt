@@ -126,3 +126,18 @@ fn names_where_it_ends(rt: HostRuntime) -> Result<(), Fail> {
     }
     Ok(())
 }
+
+#[test]
+fn errors_in_words(rt: HostRuntime) -> Result<(), Fail> {
+    let rows = [
+        (
+            HeadError::BadHead { field: 12 },
+            "field 12 of the slice header differs",
+        ),
+        (HeadError::NoMemory, "no memory"),
+    ];
+    for (error, text) in rows {
+        assert_eq!(rt; format!(in rt.alloc(); "{error}")?.as_str(), text);
+    }
+    Ok(())
+}
