@@ -106,3 +106,6 @@ pub(crate) fn rows_fit(task: &Task, rows: &[Vec<u8>])
 {
     picture_fits(task.current);
 }
+
+#[cfg(test)]
+mod tests;
