@@ -12,7 +12,7 @@ pub struct Case {
     pub digest: u64,
 }
 
-pub const CASES: [Case; 44] = [
+pub const CASES: [Case; 46] = [
     Case {
         size: "32x32",
         effort: "0",
@@ -452,5 +452,25 @@ pub const CASES: [Case; 44] = [
         paints: 6,
         bytes: 2511,
         digest: 0xe3badf97201690b9,
+    },
+    Case {
+        size: "64x32",
+        effort: "0",
+        key: "1",
+        script: "cut\n",
+        pictures: 1,
+        paints: 0,
+        bytes: 9302,
+        digest: 0xc4534560ec3db858,
+    },
+    Case {
+        size: "16x8",
+        effort: "2",
+        key: "1",
+        script: "fill 0 4 8 4 040404\nfill 8 0 8 8 040404\nblit 8 0 4 4 000000000000010101030303000000010101030303040404010101030303040404040404030303040404040404040404\ncut\n",
+        pictures: 1,
+        paints: 3,
+        bytes: 323,
+        digest: 0x26fe0adb8da5feff,
     },
 ];

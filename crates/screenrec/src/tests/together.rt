@@ -352,6 +352,65 @@ fn cuts_of_both_files_count(rt: HostRuntime) -> Result<(), Fail> {
 }
 
 #[test]
+fn lines_of_both_files_count(rt: HostRuntime) -> Result<(), Fail> {
+    let words = ["record", "32x32", "1", "0", "0", "o", "a", "b"];
+    let mut lines = Vec::new(rt.alloc());
+    for _ in 0..500_000 {
+        lines.extend_from_slice(b"fill 0 0 1 1 000000\n")?;
+    }
+    let mut more = lines.clone()?;
+    more.extend_from_slice(b"cut\n")?;
+    let which = LimitKind::Lines;
+    assert_eq!(rt;
+        refused(&rt, &words, [&lines, &more])?,
+        Status::Limit { which }
+    );
+    assert_eq!(rt;
+        refused(&rt, &words, [&more, &lines])?,
+        Status::Limit { which }
+    );
+    Ok(())
+}
+
+#[test]
+fn a_second_file_that_is_too_large(rt: HostRuntime) -> Result<(), Fail> {
+    let words = ["record", "32x32", "1", "0", "0", "o", "a", "b"];
+    let mut large = Vec::new(rt.alloc());
+    for _ in 0..4_194_304 {
+        large.extend_from_slice(b"cut\n")?;
+    }
+    large.push(b'\n')?;
+    assert_eq!(rt;
+        refused(&rt, &words, [RED, &large])?,
+        Status::TooLarge { file: 1 }
+    );
+    Ok(())
+}
+
+// 72 rows of two coding tree units, more than there can be workers.
+#[test]
+fn more_rows_than_workers(rt: HostRuntime) -> Result<(), Fail> {
+    let alloc = rt.alloc();
+    let mut shelf = CalmShelf::new(alloc)?;
+    shelf.put(
+        "a",
+        b"fill 0 0 40 2300 204060\nfill 9 100 20 2000 ff8000\ncut\nfill 3 7 30 2222 01fe80\ncut\n",
+    )?;
+    let mut report = MemorySink::new(alloc, &[])?;
+    let words = ["record", "40x2300", "64", "1", "0", "o", "a"];
+    let outcome = run(&rt, alloc, &words, &mut shelf, &mut report, &NoGate);
+    assert_eq!(rt; outcome.status, Status::Ok);
+    let mut other = MemorySink::new(alloc, &[])?;
+    let words = ["serial", "40x2300", "1", "0", "p", "a"];
+    let serial = run_serial(alloc, &words, &mut shelf, &mut other);
+    assert_eq!(rt; serial.status, Status::Ok);
+    assert!(rt; shelf.file("o").is_some());
+    assert_eq!(rt; shelf.file("o"), shelf.file("p"));
+    assert_eq!(rt; report.text(), other.text());
+    Ok(())
+}
+
+#[test]
 fn real_files(rt: HostRuntime) -> Result<(), Fail> {
     let alloc = rt.alloc();
     let mut shelf = DiskShelf::new(alloc, &rt);
