@@ -32,3 +32,6 @@ pub mod Residual
 pub mod Modes
 pub mod Predict
 pub mod FileLaws
+pub mod Motion
+pub mod Frames
+pub mod Hash

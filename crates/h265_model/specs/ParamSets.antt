@@ -238,15 +238,16 @@ sps_back =
 abbrev pub sps_fields : Size → List Field
 sps_fields size = sps_front ++ size_fields size ++ sps_back
 
--- the picture parameter set (7.3.2.3)
-unfoldable pub pps_fields : List Field
-pps_fields =
+-- the picture parameter set up to dependent_slice_segments_enabled_flag, and after it (7.3.2.3)
+abbrev pub pps_front : List Field
+pps_front =
     -- pps_pic_parameter_set_id
     golomb 1 0 ∷
     -- pps_seq_parameter_set_id
-    golomb 2 0 ∷
-    -- dependent_slice_segments_enabled_flag
-    fixed 3 1 0 ∷
+    golomb 2 0 ∷ []
+
+abbrev pub pps_back : List Field
+pps_back =
     -- output_flag_present_flag
     fixed 4 1 0 ∷
     -- num_extra_slice_header_bits
@@ -302,6 +303,13 @@ pps_fields =
     -- pps_extension_present_flag
     fixed 30 1 0 ∷ []
 
+-- with slices that have one segment, or one for each row of coding tree units (dependent_slice_segments_enabled_flag)
+unfoldable pub pps_fields_of : Bool → List Field
+pps_fields_of segments = pps_front ++ fixed 3 1 (flag segments) ∷ pps_back
+
+unfoldable pub pps_fields : List Field
+pps_fields = pps_front ++ fixed 3 1 0 ∷ pps_back
+
 -- a parameter set's NAL unit: its header, its fields and trailing bits
 abbrev pub set_unit : ℕ → List Field → NalUnit
 set_unit first fields = record { header = first ∷ 1 ∷ []; rbsp = bytes (aligned_bits (fields_bits fields)) }
@@ -309,6 +317,10 @@ set_unit first fields = record { header = first ∷ 1 ∷ []; rbsp = bytes (alig
 -- the three parameter sets of a size
 unfoldable pub param_units : Size → List NalUnit
 param_units size = set_unit 0x40 vps_fields ∷ set_unit 0x42 (sps_fields size) ∷ set_unit 0x44 pps_fields ∷ []
+
+-- the same of streams whose pictures may have a segment for each row
+unfoldable pub set_units : Size → Bool → List NalUnit
+set_units size segments = set_unit 0x40 vps_fields ∷ set_unit 0x42 (sps_fields size) ∷ set_unit 0x44 (pps_fields_of segments) ∷ []
 
 -- ---- reading
 
@@ -380,3 +392,31 @@ read_three vps sps pps =
 unfoldable pub read_params : List NalUnit → Result Size BadParam
 read_params (vps ∷ sps ∷ pps ∷ []) = read_three vps sps pps
 read_params _ = Err (record { set = 0; field = 0 })
+
+-- ---- reading where a segment for each row is told
+
+-- dependent_slice_segments_enabled_flag, which is 0 where a picture is at most one coding tree block wide
+abbrev pub segments_flag : Size → List Bool → Result (Bool × List Bool) ℕ
+segments_flag size bits =
+    read_field 3 (U 1) bits >>- λ found.
+    if found.0 == 0 then Ok (false, found.1) else if nat_lt 32 (coded size.w) then Ok (true, found.1) else Err 3
+
+-- whether a picture has a segment for each row
+abbrev pub read_pps : Size → NalUnit → Result Bool ℕ
+read_pps size unit =
+    set_bits 0x44 unit >>- λ bits.
+    read_fields pps_front bits >>- λ bits.
+    segments_flag size bits >>- λ segments.
+    read_fields pps_back segments.1 >>- λ bits.
+    read_trailing 31 bits >>- λ _. Ok segments.0
+
+abbrev pub read_all_sets : NalUnit → NalUnit → NalUnit → Result (Size × Bool) BadParam
+read_all_sets vps sps pps =
+    in_set 0 (read_fixed_set 0x40 vps_fields 17 vps) >>- λ _.
+    in_set 1 (read_sps sps) >>- λ size.
+    in_set 2 (read_pps size pps) >>- λ segments. Ok (size, segments)
+
+-- the size that three parameter sets tell, and whether a picture has a segment for each row, or the first field that differs
+unfoldable pub read_sets : List NalUnit → Result (Size × Bool) BadParam
+read_sets (vps ∷ sps ∷ pps ∷ []) = read_all_sets vps sps pps
+read_sets _ = Err (record { set = 0; field = 0 })

@@ -1,7 +1,7 @@
--- The slice segment header (7.3.6.1), of one slice for each picture.
+-- The slice segment header (7.3.6.1), of one slice for each picture, and of a slice in a segment for each row.
 use Rattle.std.specs.Prelude.{ℕ, zero, suc, ◌+◌, ◌-◌, ◌/◌, Bool, true, false, List, [], ◌∷◌, ◌++◌, length, map, Result, Ok, Err, nat_lt, if◌then◌else◌, ◌≡◌, ◌<◌, ◌^◌, IsTrue}
 use Rattle.std.specs.List.{AllByRecursion}
-use Rattle.h265_model.specs.Bits.{bits, read_alignment}
+use Rattle.h265_model.specs.Bits.{bits, read_alignment, digit_count}
 use Rattle.h265_model.specs.Script.{◌>>-◌}
 use Rattle.h265_model.specs.Fields.{Field, U, fixed, golomb, fields_bits, aligned_bits, read_field, read_fields, or_number}
 
@@ -89,6 +89,46 @@ read_head rbsp idr rows =
     read_entries (rows - 1) bits >>- λ entries.
     or_number 13 (read_alignment entries.1) >>- λ rest.
     Ok (record { idr = idr; poc = poc.0; offsets = entries.0 }, length rbsp - length rest / 8)
+
+-- ---- segments
+
+-- slice_segment_address has Ceil(Log2(PicSizeInCtbsY)) bits
+abbrev pub address_bits : ℕ → ℕ
+address_bits ctus = digit_count (ctus - 1)
+
+abbrev pub prior_pics_fields : Bool → List Field
+prior_pics_fields true =
+    -- no_output_of_prior_pics_flag
+    fixed 2 1 0 ∷ []
+prior_pics_fields false = []
+
+-- the header of a dependent slice segment at this address, of a picture of so many coding tree blocks
+unfoldable pub dependent_fields : Bool → ℕ → ℕ → List Field
+dependent_fields idr address ctus =
+    -- first_slice_segment_in_pic_flag
+    fixed 1 1 0 ∷ []
+    ++ prior_pics_fields idr
+    -- slice_pic_parameter_set_id
+    ++ (golomb 3 0 ∷
+    -- dependent_slice_segment_flag
+    fixed 4 1 1 ∷
+    -- slice_segment_address
+    fixed 5 (address_bits ctus) address ∷
+    -- num_entry_point_offsets
+    golomb 6 0 ∷ [])
+
+-- a segment's header, with byte_alignment: at address 0 that of a slice without entry points
+unfoldable pub segment_bits : Bool → ℕ → ℕ → ℕ → List Bool
+segment_bits idr poc zero ctus = head_bits (record { idr = idr; poc = poc; offsets = [] })
+segment_bits idr poc (suc n) ctus = aligned_bits (fields_bits (dependent_fields idr (suc n) ctus))
+
+-- the picture order count's low bits, 0 where the header has none, and its length in bytes, or the number of the first field that differs
+unfoldable pub read_segment_head : List ℕ → Bool → ℕ → ℕ → Result (ℕ × ℕ) ℕ
+read_segment_head rbsp idr zero ctus = read_head rbsp idr 1 >>- λ found. Ok (found.0.poc, found.1)
+read_segment_head rbsp idr (suc n) ctus =
+    read_fields (dependent_fields idr (suc n) ctus) (bits rbsp) >>- λ left.
+    or_number 7 (read_alignment left) >>- λ rest.
+    Ok (0, length rbsp - length rest / 8)
 
 -- ---- headers that are read back
 

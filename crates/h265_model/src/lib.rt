@@ -2,18 +2,22 @@
 #![tactic(auto)]
 
 mod entry;
+mod extra;
 mod leaf;
 mod line;
 mod lists;
 mod memory;
+mod moves;
 mod refusal;
 mod told;
 
 pub use entry::Entry;
+pub use extra::Extra;
 pub use leaf::{Kind, Leaf, SliceKind};
 pub use line::{Job, Line, Pixels, Rect, Rgb};
 pub use lists::{Bytes, History, Numbers};
 pub use memory::NoMemory;
+pub use moves::{MoveKind, MoveLeaf, Vector};
 pub use refusal::{Cause, LimitKind};
 pub use told::Told;
 
