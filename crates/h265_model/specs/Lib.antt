@@ -35,3 +35,7 @@ pub mod FileLaws
 pub mod Motion
 pub mod Frames
 pub mod Hash
+pub mod MotionTree
+pub mod MotionSlice
+pub mod MotionRebuild
+pub mod DecodeAll

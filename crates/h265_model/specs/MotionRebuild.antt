@@ -1,0 +1,36 @@
+-- The samples of a picture from what was read of its units (8.4.1 for PCM, 8.4.4.1, 8.5.3.3 for copies, 8.6.2 for cu_transquant_bypass_flag, 8.6.7).
+use Rattle.std.specs.Prelude.{ℕ, ◌+◌, List, [], ◌∷◌, get_or}
+use Rattle.h265_model.specs.declared.leaf.Leaf.{Leaf}
+use Rattle.h265_model.specs.declared.moves.Vector.{Vector}
+use Rattle.h265_model.specs.Plain.{Size, Picture}
+use Rattle.h265_model.specs.Predict.{square, prediction}
+use Rattle.h265_model.specs.Motion.{moved}
+use Rattle.h265_model.specs.MotionTree.{ReadUnit, Content, Copied, Moved, Samples, Levels, leaf_of}
+use Rattle.h265_model.specs.Tree.{leaf_side}
+use Rattle.h265_model.specs.Raster.{planes, blank}
+use Rattle.h265_model.specs.Rebuild.{sums, with_block}
+
+-- 8.5.3.3.3: the block of a picture that a vector in whole samples names
+unfoldable pub moved_samples : Picture → Leaf → Vector → ℕ → List ℕ
+moved_samples prev leaf v component =
+    square (leaf_side leaf) (λ x y. prev component (moved (leaf.x + x) v.x) (moved (leaf.y + y) v.y))
+
+-- a block of one component: copied, the samples read, or prediction and levels
+unfoldable pub block_of : Size → Picture → Picture → Leaf → Content → ℕ → List ℕ
+block_of size prev now leaf (Copied v) component = moved_samples prev leaf v component
+block_of size prev now leaf (Moved v) component = moved_samples prev leaf v component
+block_of size prev now leaf (Samples planes) component = get_or planes component []
+block_of size prev now leaf (Levels mode planes) component =
+    sums (prediction size now mode component leaf.x leaf.y leaf.log2) (get_or planes component [])
+
+abbrev pub with_unit : Size → Picture → Picture → ReadUnit → Picture
+with_unit size prev now read = with_block now (leaf_of read) (block_of size prev now (leaf_of read) read.content)
+
+-- the units in the order of coding, each after those before it
+abbrev pub with_units : Size → Picture → Picture → List ReadUnit → Picture
+with_units size prev now [] = now
+with_units size prev now (read ∷ units) = with_units size prev (with_unit size prev now read) units
+
+-- the planes of the picture whose units were read, after the previous picture
+unfoldable pub rebuild : Size → Picture → List ReadUnit → List (List ℕ)
+rebuild size prev units = planes size (with_units size prev blank units)
