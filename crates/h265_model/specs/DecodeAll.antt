@@ -1,10 +1,10 @@
 -- Decoding a byte stream (clause 8), restricted to the profile of the parameter sets: one step for each NAL unit.
-use Rattle.std.specs.Prelude.{ℕ, zero, suc, ◌+◌, ◌*◌, ◌-◌, ◌%◌, Bool, true, false, ◌&&◌, List, [], ◌∷◌, ◌++◌, length, take, drop, map, Option, Some, None, Result, Ok, Err, ◌==◌, nat_lt, bytes_eq, if◌then◌else◌}
+use Rattle.std.specs.Prelude.{ℕ, ◌+◌, ◌*◌, ◌%◌, Bool, true, false, ◌&&◌, List, [], ◌∷◌, ◌++◌, length, take, drop, map, Option, Some, None, Result, Ok, Err, ◌==◌, nat_lt, bytes_eq, if◌then◌else◌}
 use Rattle.std.specs.Bool.{beq}
 use Rattle.h265_model.specs.Plain.{Size, Picture, ctus}
 use Rattle.h265_model.specs.Bits.{◌>>=◌}
 use Rattle.h265_model.specs.Script.{◌>>-◌}
-use Rattle.h265_model.specs.Raster.{Raster, stored_picture, crop, blank}
+use Rattle.h265_model.specs.Raster.{Raster, crop, blank}
 use Rattle.h265_model.specs.NalUnits.{NalUnit}
 use Rattle.h265_model.specs.ParamSets.{read_sets}
 use Rattle.h265_model.specs.SliceHead.{read_head, read_segment_head}

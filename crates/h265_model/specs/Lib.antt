@@ -39,3 +39,6 @@ pub mod MotionTree
 pub mod MotionSlice
 pub mod MotionRebuild
 pub mod DecodeAll
+pub mod Walks
+pub mod MotionChoice
+pub mod ExtraStream

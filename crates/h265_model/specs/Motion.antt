@@ -1,6 +1,6 @@
 -- Motion in whole samples: the vectors of neighbours, the merge vector and the predictors, and the vector difference,
 -- as items and read (7.3.8.6, 7.3.8.9, 7.4.9.9, 8.5.3.2).
-use Rattle.std.specs.Prelude.{ℕ, zero, suc, ◌+◌, ◌*◌, ◌/◌, ◌-◌, ◌%◌, ◌^◌, Bool, true, false, not, ◌&&◌, List, [], ◌∷◌, ◌++◌, map, ◌==◌, nat_le, nat_lt, if◌then◌else◌, Option, Some, None, ℤ, pos, negsuc, ◌+ℤ◌, ◌-ℤ◌, ◌*ℤ◌, neg_ℤ, nat_abs}
+use Rattle.std.specs.Prelude.{ℕ, zero, suc, ◌+◌, ◌/◌, ◌-◌, ◌%◌, ◌^◌, Bool, true, false, ◌&&◌, List, [], ◌∷◌, ◌++◌, map, ◌==◌, nat_le, nat_lt, if◌then◌else◌, Option, Some, None, ℤ, pos, negsuc, ◌+ℤ◌, ◌-ℤ◌, ◌*ℤ◌, neg_ℤ, nat_abs}
 use Rattle.std.specs.List.{find}
 use Rattle.h265_model.specs.declared.Place.TheVariants.{Context, Bypass}
 use Rattle.h265_model.specs.declared.Item.{Item}
@@ -15,7 +15,7 @@ use Rattle.h265_model.specs.Plain.{Size, coded, leaf_with, context_bin, bypass_b
 use Rattle.h265_model.specs.Engine.{Reader, ◌>>=◌, give, refuse, bin}
 use Rattle.h265_model.specs.Residual.{is_negative, signed}
 use Rattle.h265_model.specs.Binarise.{eg, bypass_bins, eg_read}
-use Rattle.h265_model.specs.Tree.{covers, is_skipped}
+use Rattle.h265_model.specs.Tree.{covers}
 
 -- ---- units that are coded already, with their vectors
 

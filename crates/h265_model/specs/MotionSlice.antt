@@ -1,5 +1,5 @@
 -- Reading the slice segment data of a picture, in one segment with entry points or in one for each row (7.3.8.1, 9.3.1, 9.3.2).
-use Rattle.std.specs.Prelude.{ℕ, zero, suc, ◌+◌, ◌*◌, Bool, true, false, List, [], ◌∷◌, ◌++◌, Option, Some, None, ◌==◌, if◌then◌else◌}
+use Rattle.std.specs.Prelude.{ℕ, ◌+◌, ◌*◌, true, List, [], ◌∷◌, ◌++◌, Option, Some, None, ◌==◌, if◌then◌else◌}
 use Rattle.h265_model.specs.declared.Place.TheVariants.{Terminate}
 use Rattle.h265_model.specs.declared.leaf.SliceKind.{SliceKind}
 use Rattle.h265_model.specs.Plain.{Size, ctus}

@@ -1,6 +1,6 @@
 -- Reading coding tree units in which blocks may be copied from other places of the picture before (7.3.8.1 to 7.3.8.10, 8.5.3).
-use Rattle.std.specs.Prelude.{ℕ, zero, suc, ◌+◌, ◌*◌, ◌%◌, ◌^◌, Bool, true, false, not, ◌&&◌, List, [], ◌∷◌, ◌++◌, map, flat_map, ◌==◌, if◌then◌else◌, Option, Some, None, ℤ}
-use Rattle.h265_model.specs.declared.Place.TheVariants.{Context, Bypass, Terminate}
+use Rattle.std.specs.Prelude.{ℕ, zero, suc, ◌+◌, ◌*◌, ◌%◌, ◌^◌, Bool, true, false, not, List, [], ◌∷◌, ◌++◌, map, flat_map, ◌==◌, if◌then◌else◌, Option, Some, None, ℤ}
+use Rattle.h265_model.specs.declared.Place.TheVariants.{Context, Terminate}
 use Rattle.h265_model.specs.declared.leaf.SliceKind.{SliceKind}
 use Rattle.h265_model.specs.declared.leaf.SliceKind.TheVariants.{I, P}
 use Rattle.h265_model.specs.declared.leaf.Kind.{Kind}
