@@ -1,19 +1,10 @@
 -- Streams of small pictures with hashes, segments and moves, computed.
-use Rattle.std.specs.Prelude.{◌≡◌, ℕ, true, false, List, [], ◌∷◌, ◌++◌, length, replicate, drop, map, flat_map, codes, Ok, Err, Some, None, ℤ, pos, negsuc, Option, refl}
+use Rattle.std.specs.Prelude.{◌≡◌, ℕ, [], ◌∷◌, replicate, drop, Ok, refl}
 use Rattle.h265_model.specs.declared.line.Rgb.{Rgb}
-use Rattle.h265_model.specs.declared.leaf.SliceKind.TheVariants.{I, P}
-use Rattle.h265_model.specs.declared.leaf.Kind.TheVariants as kinds
-use Rattle.h265_model.specs.declared.leaf.Leaf.{Leaf}
-use Rattle.h265_model.specs.declared.moves.MoveLeaf.{MoveLeaf}
-use Rattle.h265_model.specs.declared.moves.MoveKind.{MoveKind}
-use Rattle.h265_model.specs.declared.moves.MoveKind.TheVariants as moves
-use Rattle.h265_model.specs.declared.extra.Extra.{Extra}
 use Rattle.h265_model.specs.declared.extra.Extra.TheVariants.{Plain, Hash, Segments, Moves}
-use Rattle.h265_model.specs.Plain.{Size, Picture, ctus, below}
+use Rattle.h265_model.specs.Plain.{Size}
 use Rattle.h265_model.specs.Raster.{Raster}
 use Rattle.h265_model.specs.Words.{Settings}
-use Rattle.h265_model.specs.Tree.{Source}
-use Rattle.h265_model.specs.NalUnits.{escape}
 use Rattle.h265_model.specs.Bits.{digits_up_to, u, ue, value_after, bytes, read_u, read_ue_after, read_alignment}
 use Rattle.h265_model.specs.Choice.{intra_cost, pcm_cost, is_copy, modes_of, leaf_plan, choice}
 use Rattle.h265_model.specs.Code.{closing, put_bin, code, contexts_after}

@@ -1,3 +1,7 @@
 pub mod Ties
 pub mod ExtraExamples
 pub mod RefusalExamples
+pub mod MotionExamples
+pub mod BlackExamples
+pub mod SegmentExamples
+pub mod ChoiceExamples

@@ -301,4 +301,3 @@ segments =
 segments_read : map (λ stream. counted (decode_all stream)) segments ≡ Ok (size_of 40 40, 1) ∷ Err 4 ∷ Err 5 ∷ Err 3 ∷ Err 4 ∷ Err 4 ∷ Err 4 ∷ Ok (size_of 40 40, 1) ∷ Err 3 ∷ Err 3 ∷ Err 4 ∷ Err 4 ∷ Err 4 ∷ Err 4 ∷ Err 4 ∷ Err 3 ∷ []
 unfolding digits_up_to u value_after read_u read_ue_after read_alignment start lps_range next row_start start_codes slice_step segment_step hash_step step read_units decode_all engine_start doublings renormalised context_read bypass_read terminate_read aligned samples is_done read_fields hash_of_planes candidates mode_read vector_before merge predictors has_source difference_read whole_part vector_read moved_samples block_of rebuild slice_row_read segment_row_read row_of_bytes rows_read coding_unit_read ctu_read unescape_after payload forbidden next_start units_within units profile_tier_level vps_front vps_back sps_formats sps_front size_fields sps_back read_size read_sets coding_order neighbours is_filtered references angle inverse_angle predict stored_picture crop scan scan_kind last_context sub_block_context sig_context greater1_context greater2_context cbf in_rows residual_read cut_after substreams head_front head_middle dependent_fields read_offsets read_head read_segment_head split_context skip_context candidates_at block_words rounds compress hash_after digest_bytes md5
 segments_read = refl
-
