@@ -5,3 +5,5 @@ pub mod MotionExamples
 pub mod BlackExamples
 pub mod SegmentExamples
 pub mod ChoiceExamples
+pub mod MotionLaw
+pub mod StillLaw

@@ -1,9 +1,19 @@
 //! Laws over the definitions of streams that may have hashes, segments and moved blocks. Each function does nothing: its clause is the law.
 #![tactic(auto)]
 
-ghost use Rattle.stream_laws.specs.Laws.{EachSetIsPlain};
+ghost use Rattle.stream_laws.specs.Laws.{EachSetIsPlain, EachVectorIsRead, EachRowIsStill};
 
 /// Without segments the parameter sets are those of a size.
 pub fn each_set_is_plain()
     ensures { EachSetIsPlain }
+{}
+
+/// Each vector that is written as a difference is read back.
+pub fn each_vector_is_read()
+    ensures { EachVectorIsRead }
+{}
+
+/// Rows without moved units are those of streams in which nothing moves.
+pub fn each_row_is_still()
+    ensures { EachRowIsStill }
 {}
