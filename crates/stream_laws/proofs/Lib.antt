@@ -7,3 +7,7 @@ pub mod SegmentExamples
 pub mod ChoiceExamples
 pub mod MotionLaw
 pub mod StillLaw
+pub mod OldTree
+pub mod OldRows
+pub mod OldPictures
+pub mod OldStreams

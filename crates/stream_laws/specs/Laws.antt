@@ -1,5 +1,5 @@
 -- Laws over the definitions of streams: those that tie streams with moves, segments and hashes to plain ones, and what is read back.
-use Rattle.std.specs.Prelude.{◌≡◌, false, nat_abs, ◌≤◌, ℕ, List, map}
+use Rattle.std.specs.Prelude.{◌≡◌, false, nat_abs, ◌≤◌, ℕ, List, map, Ok}
 use Rattle.h265_model.specs.declared.Place.TheVariants.{Context}
 use Rattle.h265_model.specs.declared.moves.Vector.{Vector}
 use Rattle.h265_model.specs.Plain.{Size}
@@ -10,6 +10,9 @@ use Rattle.h265_model.specs.Motion.{move_items, vector_read, still}
 use Rattle.h265_model.specs.declared.leaf.SliceKind.{SliceKind}
 use Rattle.h265_model.specs.declared.leaf.Leaf.{Leaf}
 use Rattle.h265_model.specs.Slice.{row_code}
+use Rattle.h265_model.specs.Raster.{Raster}
+use Rattle.h265_model.specs.Decode.{decode}
+use Rattle.h265_model.specs.DecodeAll.{decode_all}
 use Rattle.h265_model.specs.Walks.{UnitItems, still_unit, move_unit, code_of}
 
 -- parameter sets without segments (7.3.2)
@@ -40,3 +43,9 @@ AreStill unit =
 -- in streams without moves, and in streams with moves (7.3.8.1 to 7.3.8.5)
 abbrev pub EachRowIsStill : Type 0
 EachRowIsStill = AreStill still_unit × AreStill move_unit
+
+-- ---- streams
+
+-- a stream that was decoded without regard to moves, segments and hashes is decoded to the same
+abbrev pub EachOldStreamIsDecoded : Type 0
+EachOldStreamIsDecoded = (stream : List ℕ) (size : Size) (pictures : List Raster) → decode stream ≡ Ok (size, pictures) → decode_all stream ≡ Ok (size, pictures)

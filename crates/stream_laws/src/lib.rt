@@ -1,7 +1,7 @@
 //! Laws over the definitions of streams that may have hashes, segments and moved blocks. Each function does nothing: its clause is the law.
 #![tactic(auto)]
 
-ghost use Rattle.stream_laws.specs.Laws.{EachSetIsPlain, EachVectorIsRead, EachRowIsStill};
+ghost use Rattle.stream_laws.specs.Laws.{EachSetIsPlain, EachVectorIsRead, EachRowIsStill, EachOldStreamIsDecoded};
 
 /// Without segments the parameter sets are those of a size.
 pub fn each_set_is_plain()
@@ -16,4 +16,9 @@ pub fn each_vector_is_read()
 /// Rows without moved units are those of streams in which nothing moves.
 pub fn each_row_is_still()
     ensures { EachRowIsStill }
+{}
+
+/// A stream that was decoded without regard to moves, segments and hashes is decoded to the same.
+pub fn each_old_stream_is_decoded()
+    ensures { EachOldStreamIsDecoded }
 {}

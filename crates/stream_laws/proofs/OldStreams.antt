@@ -1,0 +1,320 @@
+-- A stream without moves, segments and hashes that was decoded before is decoded in the same way.
+use Rattle.std.proofs.Common.{◌≡◌, refl, sym, ◌∙◌, ap, ℕ, ◌+◌, ◌-◌, ◌/◌, ◌%◌, List, [], ◌∷◌, ◌++◌, Bool, true, false, cond}
+use Rattle.std.specs.Prelude.{Option, Some, None, Result, Ok, Err, ◌==◌, bytes_eq, take, drop, length, nat_lt}
+use Rattle.std.proofs.lemmas.Bool.{cond-true}
+use Rattle.h265_model.specs.Plain.{Size, ctus, coded}
+use Rattle.h265_model.specs.Bits.{◌>>=◌ as and_then, bits, read_alignment}
+use Rattle.h265_model.specs.Script.{◌>>-◌}
+use Rattle.h265_model.specs.Raster.{Raster, crop}
+use Rattle.h265_model.specs.NalUnits.{NalUnit}
+use Rattle.h265_model.specs.Fields.{Field, U, fixed, golomb, read_field, read_fields, read_trailing, or_number}
+use Rattle.h265_model.specs.ParamSets.{BadParam, in_set, set_bits, read_fixed_set, read_sps, read_params, vps_fields, pps_front, pps_back, pps_fields, segments_flag, read_pps, read_sets}
+use Rattle.h265_model.specs.SliceHead.{Head, head_front, head_middle, read_poc, read_entries, read_head}
+use Rattle.h265_model.specs.Stream.{nal_header, slice_kind}
+use Rattle.h265_model.specs.Slice.{read_data}
+use Rattle.h265_model.specs.Tree as Tree
+use Rattle.h265_model.specs.Decode.{Decoded, decoded_picture, reference_of, ok_of, read_slice, read_idr, follows, read_trail, read_picture, or_unit, read_pictures, units_or_number, size_or_number, decode}
+use Rattle.h265_model.specs.MotionTree.{ReadUnit}
+use Rattle.h265_model.specs.MotionSlice.{slice_read}
+use Rattle.h265_model.specs.MotionRebuild.{rebuild}
+use Rattle.h265_model.specs.Rebuild as Rebuild
+use Rattle.h265_model.specs.Hash.{hash_header}
+use Rattle.h265_model.specs.DecodeAll.{Begun, Stand, at_first, at_end, is_next, whole, slice_step, picture_step, hash_step, step, shown, at_number, read_units, sets_or_number, decode_all}
+use Rattle.stream_laws.specs.Laws.{EachOldStreamIsDecoded}
+use Rattle.stream_laws.proofs.OldTree.{units_as}
+use Rattle.stream_laws.proofs.OldRows.{all_of, slice_same}
+use Rattle.stream_laws.proofs.OldPictures.{rebuild_same}
+
+-- ---- slices
+
+-- the header of an IDR picture has the order count 0
+idr_order : (rbsp : List ℕ) (rows : ℕ) (found : Head × ℕ) → read_head rbsp true rows ≡ Ok found → found.0.poc ≡ 0
+unfolding read_head
+idr_order rbsp rows found h = front (read_fields (head_front true) (bits rbsp)) h
+  where
+    poc_of : Result (Head × ℕ) ℕ → ℕ
+    poc_of (Ok x) = x.0.poc
+    poc_of (Err e) = 0
+
+    ended : (entries : List ℕ × List Bool) (r : Result (List Bool) ℕ)
+        → (r >>- λ rest. Ok (record { idr = true; poc = 0; offsets = entries.0 }, length rbsp - length rest / 8)) ≡ Ok found → found.0.poc ≡ 0
+    ended entries (Err e) g = absurd (cc)
+    ended entries (Ok rest) g = sym (ap poc_of g)
+
+    entered : (r : Result (List ℕ × List Bool) ℕ)
+        → (r >>- λ entries. or_number 13 (read_alignment entries.1) >>- λ rest. Ok (record { idr = true; poc = 0; offsets = entries.0 }, length rbsp - length rest / 8)) ≡ Ok found
+        → found.0.poc ≡ 0
+    entered (Err e) g = absurd (cc)
+    entered (Ok entries) g = ended entries (or_number 13 (read_alignment entries.1)) g
+
+    middle : (r : Result (List Bool) ℕ)
+        → (r >>- λ bs. read_entries (rows - 1) bs >>- λ entries. or_number 13 (read_alignment entries.1) >>- λ rest. Ok (record { idr = true; poc = 0; offsets = entries.0 }, length rbsp - length rest / 8)) ≡ Ok found
+        → found.0.poc ≡ 0
+    middle (Err e) g = absurd (cc)
+    middle (Ok bs) g = entered (read_entries (rows - 1) bs) g
+
+    front : (r : Result (List Bool) ℕ)
+        → (r >>- λ bs. read_poc true bs >>- λ poc. read_fields (head_middle true ++ golomb 10 (rows - 1) ∷ []) poc.1 >>- λ bs.
+        read_entries (rows - 1) bs >>- λ entries. or_number 13 (read_alignment entries.1) >>- λ rest. Ok (record { idr = true; poc = poc.0; offsets = entries.0 }, length rbsp - length rest / 8)) ≡ Ok found
+        → found.0.poc ≡ 0
+    front (Err e) g = absurd (cc)
+    front (Ok bs) g = middle (read_fields (head_middle true ++ golomb 10 (rows - 1) ∷ []) bs) g
+
+-- a whole picture
+abbrev now_whole : Decoded → Stand
+now_whole now = record { last = Some now; begun = None; ended = true }
+
+ok_is : {A E : Type 0} (r : Result A E) (x : A) → ok_of r ≡ Some x → r ≡ Ok x
+ok_is {A = A} {E = E} (Ok y) x h = ap back h
+  where
+    back : Option A → Result A E
+    back None = Ok y
+    back (Some z) = Ok z
+ok_is (Err e) x h = absurd (cc)
+
+-- what a slice gives, where its order count is the next one
+slice_whole : (size : Size) (idr : Bool) (stand : Stand) (before : Option Decoded) (rbsp : List ℕ) (now : Decoded)
+    → ((units : List ReadUnit) (poc : ℕ) → whole size stand idr poc units ≡ Some (now_whole (record { poc = poc; planes = rebuild size (reference_of size before) units })))
+    → ((found : Head × ℕ) → read_head rbsp idr (ctus size.h) ≡ Ok found → found.0.poc ≡ now.poc → is_next idr stand.last found.0.poc ≡ true)
+    → read_slice size idr before rbsp ≡ Some now → slice_step size idr stand rbsp ≡ Some (now_whole now)
+unfolding slice_step
+slice_whole size idr stand before rbsp now made next h = headed (ok_of (read_head rbsp idr (ctus size.h))) refl h
+  where
+    planes_of : List Tree.ReadCtu → List (List ℕ)
+    planes_of cs = Rebuild.rebuild size (reference_of size before) (all_of cs)
+
+    finish : Head × ℕ → List ReadUnit → Option Stand
+    finish head units = cond (is_next idr stand.last head.0.poc) (whole size stand idr head.0.poc units) None
+
+    read_on : (head : Head × ℕ) → read_head rbsp idr (ctus size.h) ≡ Ok head → (o : Option (List Tree.ReadCtu)) → read_data (slice_kind idr) size head.0.offsets (drop head.1 rbsp) ≡ o
+        → and_then o (λ cs. Some (record { poc = head.0.poc; planes = planes_of cs })) ≡ Some now
+        → and_then (slice_read (slice_kind idr) size head.0.offsets (drop head.1 rbsp)) (finish head) ≡ Some (now_whole now)
+    read_on head q None o g = absurd (cc)
+    read_on head q (Some cs) o g =
+        let poc : head.0.poc ≡ now.poc = ap (λ (x : Option Decoded). poc_in x) g in
+        ap (λ x. and_then x (finish head)) (slice_same (slice_kind idr) size head.0.offsets (drop head.1 rbsp) cs o)
+        ∙ (cond-true (is_next idr stand.last head.0.poc) _ _ (next head q poc)
+        ∙ (made (units_as (all_of cs)) head.0.poc
+        ∙ (ap (λ (ps : List (List ℕ)). Some (now_whole (record { poc = head.0.poc; planes = ps }))) (rebuild_same size (reference_of size before) (all_of cs))
+        ∙ ap turned g)))
+      where
+        poc_in : Option Decoded → ℕ
+        poc_in None = 0
+        poc_in (Some d) = d.poc
+
+        turned : Option Decoded → Option Stand
+        turned None = None
+        turned (Some d) = Some (now_whole d)
+
+    headed : (o : Option (Head × ℕ)) → ok_of (read_head rbsp idr (ctus size.h)) ≡ o
+        → and_then o (λ head. and_then (read_data (slice_kind idr) size head.0.offsets (drop head.1 rbsp)) (λ cs. Some (record { poc = head.0.poc; planes = planes_of cs }))) ≡ Some now
+        → and_then o (λ head. and_then (slice_read (slice_kind idr) size head.0.offsets (drop head.1 rbsp)) (finish head)) ≡ Some (now_whole now)
+    headed None q g = absurd (cc)
+    headed (Some head) q g = read_on head (ok_is (read_head rbsp idr (ctus size.h)) head q) (read_data (slice_kind idr) size head.0.offsets (drop head.1 rbsp)) refl g
+
+idr_same : (size : Size) (stand : Stand) (rbsp : List ℕ) (now : Decoded) → read_slice size true None rbsp ≡ Some now → slice_step size true stand rbsp ≡ Some (now_whole now)
+idr_same size stand rbsp now h =
+    slice_whole size true stand None rbsp now (λ units poc. refl)
+    (λ found q poc. ap (λ (n : ℕ). n == 0) (idr_order rbsp (ctus size.h) found q)) h
+
+trail_same : (size : Size) (stand : Stand) (before : Decoded) (rbsp : List ℕ) (now : Decoded) → stand.last ≡ Some before
+    → and_then (read_slice size false (Some before) rbsp) (follows before) ≡ Some now → slice_step size false stand rbsp ≡ Some (now_whole now)
+trail_same size stand before rbsp now last h = go (read_slice size false (Some before) rbsp) refl h
+  where
+    made : (units : List ReadUnit) (poc : ℕ) → whole size stand false poc units ≡ Some (now_whole (record { poc = poc; planes = rebuild size (reference_of size (Some before)) units }))
+    made units poc = ap (λ (l : Option Decoded). whole size (record { last = l; begun = stand.begun; ended = stand.ended }) false poc units) last
+
+    checked : (d : Decoded) (b : Bool) → (d.poc == (before.poc + 1) % 256) ≡ b → read_slice size false (Some before) rbsp ≡ Some d → cond b (Some d) None ≡ Some now
+        → slice_step size false stand rbsp ≡ Some (now_whole now)
+    checked d false q r g = absurd (cc)
+    checked d true q r g =
+        slice_whole size false stand (Some before) rbsp now made
+        (λ found s poc. ap (λ (l : Option Decoded). is_next false l found.0.poc) last ∙ (ap (λ (n : ℕ). n == (before.poc + 1) % 256) (poc ∙ sym (ap (λ (x : Option Decoded). poc_in x) g)) ∙ q))
+        (r ∙ g)
+      where
+        poc_in : Option Decoded → ℕ
+        poc_in None = 0
+        poc_in (Some e) = e.poc
+
+    go : (o : Option Decoded) → read_slice size false (Some before) rbsp ≡ o → and_then o (follows before) ≡ Some now → slice_step size false stand rbsp ≡ Some (now_whole now)
+    go None r g = absurd (cc)
+    go (Some d) r g = checked d (d.poc == (before.poc + 1) % 256) refl r g
+
+-- ---- NAL units
+
+step_same : (size : Size) (stand : Stand) (unit : NalUnit) (now : Decoded) → read_picture size stand.last unit ≡ Some now → step size false stand unit ≡ Some (now_whole now)
+unfolding step
+step_same size stand unit now h = go (bytes_eq unit.header (nal_header true)) (bytes_eq unit.header (nal_header false)) h
+  where
+    other : Option Stand
+    other = cond (bytes_eq unit.header hash_header) (hash_step stand unit.rbsp) None
+
+    trail : (l : Option Decoded) → stand.last ≡ l → read_trail size l unit ≡ Some now → slice_step size false stand unit.rbsp ≡ Some (now_whole now)
+    trail None q g = absurd (cc)
+    trail (Some before) q g = trail_same size stand before unit.rbsp now q g
+
+    go : (a b : Bool) → cond a (read_idr size unit) (cond b (read_trail size stand.last unit) None) ≡ Some now
+        → cond a (picture_step size false true stand unit.rbsp) (cond b (picture_step size false false stand unit.rbsp) other) ≡ Some (now_whole now)
+    go true b g = idr_same size stand unit.rbsp now g
+    go false true g = trail stand.last refl g
+    go false false g = absurd (cc)
+
+abbrev Units : Size → List NalUnit → Type 0
+Units size us = (n : ℕ) (stand : Stand) (ps : List Raster) → stand.begun ≡ None → read_pictures size n stand.last us ≡ Ok ps → read_units size false n stand us ≡ Ok ps
+
+units_same : (size : Size) (us : List NalUnit) → Units size us
+unfolding read_pictures read_units
+units_same size [] n stand ps q h = ap (λ (b : Option Begun). at_end n b) q ∙ h
+units_same size (unit ∷ us) n stand ps q h = go (units_same size us) (read_picture size stand.last unit) refl h
+  where
+    others_of : Units size us → (now : Decoded) (r : Result (List Raster) ℕ) → read_pictures size (n + 1) (Some now) us ≡ r
+        → (r >>- λ others. Ok (crop size (decoded_picture size now) ∷ others)) ≡ Ok ps
+        → (read_units size false (n + 1) (now_whole now) us >>- λ others. Ok (shown size (now_whole now) ++ others)) ≡ Ok ps
+    others_of later now (Err e) r g = absurd (cc)
+    others_of later now (Ok others) r g = ap (λ (x : Result (List Raster) ℕ). x >>- λ os. Ok (shown size (now_whole now) ++ os)) (later (n + 1) (now_whole now) others refl r) ∙ g
+
+    go : Units size us → (o : Option Decoded) → read_picture size stand.last unit ≡ o
+        → (or_unit n o >>- λ now. read_pictures size (n + 1) (Some now) us >>- λ others. Ok (crop size (decoded_picture size now) ∷ others)) ≡ Ok ps
+        → (at_number n (step size false stand unit) >>- λ after. read_units size false (n + 1) after us >>- λ others. Ok (shown size after ++ others)) ≡ Ok ps
+    go later None o g = absurd (cc)
+    go later (Some now) o g =
+        ap (λ (x : Option Stand). at_number n x >>- λ after. read_units size false (n + 1) after us >>- λ others. Ok (shown size after ++ others)) (step_same size stand unit now o)
+        ∙ others_of later now (read_pictures size (n + 1) (Some now) us) refl g
+
+-- ---- parameter sets
+
+fields-append : (a b : List Field) (bs : List Bool) → read_fields (a ++ b) bs ≡ (read_fields a bs >>- read_fields b)
+unfolding read_fields
+fields-append [] b bs = refl
+fields-append (f ∷ fs) b bs = go (λ left. fields-append fs b left) (read_field f.number f.coding bs)
+  where
+    go : ((left : List Bool) → read_fields (fs ++ b) left ≡ (read_fields fs left >>- read_fields b)) → (r : Result (ℕ × List Bool) ℕ)
+        → (r >>- λ found. cond (found.0 == f.value) (read_fields (fs ++ b) found.1) (Err f.number)) ≡ ((r >>- λ found. cond (found.0 == f.value) (read_fields fs found.1) (Err f.number)) >>- read_fields b)
+    go later (Err e) = refl
+    go later (Ok found) = test (found.0 == f.value)
+      where
+        test : (t : Bool) → cond t (read_fields (fs ++ b) found.1) (Err f.number) ≡ (cond t (read_fields fs found.1) (Err f.number) >>- read_fields b)
+        test true = later found.1
+        test false = refl
+
+first_field : (f : Field) (fs : List Field) (bs : List Bool) → read_fields (f ∷ fs) bs ≡ (read_field f.number f.coding bs >>- λ found. cond (found.0 == f.value) (read_fields fs found.1) (Err f.number))
+unfolding read_fields
+first_field f fs bs = refl
+
+pps_same : (size : Size) (unit : NalUnit) → read_fixed_set 0x44 pps_fields 31 unit ≡ Ok tt → read_pps size unit ≡ Ok false
+unfolding pps_fields
+pps_same size unit h = headed (set_bits 0x44 unit) h
+  where
+    rest : List Field
+    rest = fixed 3 1 0 ∷ pps_back
+
+    ended : (r : Result (Unit {0}) ℕ) → r ≡ Ok tt → (r >>- λ _. Ok false) ≡ Ok false
+    ended (Err e) g = absurd (cc)
+    ended (Ok x) g = refl
+
+    back : (r : Result (List Bool) ℕ) → (r >>- λ left. read_trailing 31 left) ≡ Ok tt → (r >>- λ left. read_trailing 31 left >>- λ _. Ok false) ≡ Ok false
+    back (Err e) g = absurd (cc)
+    back (Ok left) g = ended (read_trailing 31 left) g
+
+    flagged : (found : ℕ × List Bool) (t : Bool) → (cond t (read_fields pps_back found.1) (Err 3) >>- λ left. read_trailing 31 left) ≡ Ok tt
+        → (cond t (Ok (false, found.1)) (cond (nat_lt 32 (coded size.w)) (Ok (true, found.1)) (Err 3)) >>- λ (s : Bool × List Bool). read_fields pps_back s.1 >>- λ left. read_trailing 31 left >>- λ _. Ok s.0) ≡ Ok false
+    flagged found true g = back (read_fields pps_back found.1) g
+    flagged found false g = absurd (cc)
+
+    field : (r : Result (ℕ × List Bool) ℕ) → ((r >>- λ found. cond (found.0 == 0) (read_fields pps_back found.1) (Err 3)) >>- λ left. read_trailing 31 left) ≡ Ok tt
+        → ((r >>- λ found. cond (found.0 == 0) (Ok (false, found.1)) (cond (nat_lt 32 (coded size.w)) (Ok (true, found.1)) (Err 3))) >>- λ (s : Bool × List Bool). read_fields pps_back s.1 >>- λ left. read_trailing 31 left >>- λ _. Ok s.0) ≡ Ok false
+    field (Err e) g = absurd (cc)
+    field (Ok found) g = flagged found (found.0 == 0) g
+
+    after_front : (r : Result (List Bool) ℕ) → ((r >>- read_fields rest) >>- λ left. read_trailing 31 left) ≡ Ok tt
+        → (r >>- λ bs. segments_flag size bs >>- λ s. read_fields pps_back s.1 >>- λ left. read_trailing 31 left >>- λ _. Ok s.0) ≡ Ok false
+    after_front (Err e) g = absurd (cc)
+    after_front (Ok bs) g = field (read_field 3 (U 1) bs) (sym (ap (λ r. r >>- λ left. read_trailing 31 left) (first_field (fixed 3 1 0) pps_back bs)) ∙ g)
+
+    headed : (r : Result (List Bool) ℕ) → (r >>- λ bs. read_fields (pps_front ++ rest) bs >>- λ left. read_trailing 31 left) ≡ Ok tt
+        → (r >>- λ bs. read_fields pps_front bs >>- λ bs. segments_flag size bs >>- λ s. read_fields pps_back s.1 >>- λ left. read_trailing 31 left >>- λ _. Ok s.0) ≡ Ok false
+    headed (Err e) g = absurd (cc)
+    headed (Ok bs) g = after_front (read_fields pps_front bs) (sym (ap (λ r. r >>- λ left. read_trailing 31 left) (fields-append pps_front rest bs)) ∙ g)
+
+abbrev paired : Size → Bool → Result (Size × Bool) BadParam
+paired size segments = Ok (size, segments)
+
+sets_same : (us : List NalUnit) (size : Size) → read_params us ≡ Ok size → read_sets us ≡ Ok (size, false)
+unfolding read_params read_sets
+sets_same [] size h = absurd (cc)
+sets_same (a ∷ []) size h = absurd (cc)
+sets_same (a ∷ b ∷ []) size h = absurd (cc)
+sets_same (vps ∷ sps ∷ pps ∷ []) size h = first (read_fixed_set 0x40 vps_fields 17 vps) h
+  where
+    third : (found : Size) (r : Result (Unit {0}) ℕ) → read_fixed_set 0x44 pps_fields 31 pps ≡ r → (in_set 2 r >>- λ _. Ok found) ≡ Ok size
+        → (in_set 2 (read_pps found pps) >>- paired found) ≡ Ok (size, false)
+    third found (Err e) q g = absurd (cc)
+    third found (Ok x) q g =
+        ap (λ (s : Result Bool ℕ). in_set 2 s >>- paired found) (pps_same found pps q) ∙ ap turned g
+      where
+        turned : Result Size BadParam → Result (Size × Bool) BadParam
+        turned (Ok s) = Ok (s, false)
+        turned (Err e) = Err e
+
+    second : (r : Result Size ℕ) → (in_set 1 r >>- λ found. in_set 2 (read_fixed_set 0x44 pps_fields 31 pps) >>- λ _. Ok found) ≡ Ok size
+        → (in_set 1 r >>- λ found. in_set 2 (read_pps found pps) >>- paired found) ≡ Ok (size, false)
+    second (Err e) g = absurd (cc)
+    second (Ok found) g = third found (read_fixed_set 0x44 pps_fields 31 pps) refl g
+
+    first : (r : Result (Unit {0}) ℕ) → (in_set 0 r >>- λ _. in_set 1 (read_sps sps) >>- λ found. in_set 2 (read_fixed_set 0x44 pps_fields 31 pps) >>- λ _. Ok found) ≡ Ok size
+        → (in_set 0 r >>- λ _. in_set 1 (read_sps sps) >>- λ found. in_set 2 (read_pps found pps) >>- paired found) ≡ Ok (size, false)
+    first (Err e) g = absurd (cc)
+    first (Ok x) g = second (read_sps sps) g
+sets_same (a ∷ b ∷ c ∷ d ∷ us) size h = absurd (cc)
+
+-- ---- streams
+
+abbrev size_found : Result Size BadParam → Result Size ℕ
+size_found (Ok found) = Ok found
+size_found (Err bad) = Err bad.set
+
+abbrev sets_found : Result (Size × Bool) BadParam → Result (Size × Bool) ℕ
+sets_found (Ok sets) = Ok sets
+sets_found (Err bad) = Err bad.set
+
+numbered_same : (us : List NalUnit) (size : Size) → size_or_number us ≡ Ok size → sets_or_number us ≡ Ok (size, false)
+numbered_same us size h = go (nat_lt (length us) 3) h
+  where
+    named : (r : Result Size BadParam) → read_params (take 3 us) ≡ r → size_found r ≡ Ok size
+        → (sets_found (read_sets (take 3 us))) ≡ Ok (size, false)
+    named (Err bad) q g = absurd (cc)
+    named (Ok found) q g =
+        ap sets_found (sets_same (take 3 us) found q) ∙ ap turned g
+      where
+        turned : Result Size ℕ → Result (Size × Bool) ℕ
+        turned (Ok s) = Ok (s, false)
+        turned (Err e) = Err e
+
+    go : (b : Bool) → cond b (Err (length us)) (size_found (read_params (take 3 us))) ≡ Ok size
+        → cond b (Err (length us)) (sets_found (read_sets (take 3 us))) ≡ Ok (size, false)
+    go true g = absurd (cc)
+    go false g = named (read_params (take 3 us)) refl g
+
+abbrev told : Size → List Raster → Result (Size × List Raster) ℕ
+told size pictures = Ok (size, pictures)
+
+pub streams_are_decoded : EachOldStreamIsDecoded
+unfolding decode decode_all
+streams_are_decoded stream size pictures h = listed (units_or_number stream) h
+  where
+    pictured : (us : List NalUnit) (found : Size) (r : Result (List Raster) ℕ) → read_pictures found 3 None (drop 3 us) ≡ r → (r >>- told found) ≡ Ok (size, pictures)
+        → (read_units found false 3 at_first (drop 3 us) >>- told found) ≡ Ok (size, pictures)
+    pictured us found (Err e) q g = absurd (cc)
+    pictured us found (Ok ps) q g = ap (λ (r : Result (List Raster) ℕ). r >>- told found) (units_same found (drop 3 us) 3 at_first ps refl q) ∙ g
+
+    sized : (us : List NalUnit) (r : Result Size ℕ) → size_or_number us ≡ r → (r >>- λ found. read_pictures found 3 None (drop 3 us) >>- told found) ≡ Ok (size, pictures)
+        → (sets_or_number us >>- λ sets. read_units sets.0 sets.1 3 at_first (drop 3 us) >>- told sets.0) ≡ Ok (size, pictures)
+    sized us (Err e) q g = absurd (cc)
+    sized us (Ok found) q g =
+        ap (λ (r : Result (Size × Bool) ℕ). r >>- λ sets. read_units sets.0 sets.1 3 at_first (drop 3 us) >>- told sets.0) (numbered_same us found q)
+        ∙ pictured us found (read_pictures found 3 None (drop 3 us)) refl g
+
+    listed : (r : Result (List NalUnit) ℕ) → (r >>- λ us. size_or_number us >>- λ found. read_pictures found 3 None (drop 3 us) >>- told found) ≡ Ok (size, pictures)
+        → (r >>- λ us. sets_or_number us >>- λ sets. read_units sets.0 sets.1 3 at_first (drop 3 us) >>- told sets.0) ≡ Ok (size, pictures)
+    listed (Err e) g = absurd (cc)
+    listed (Ok us) g = sized us (size_or_number us) refl g
