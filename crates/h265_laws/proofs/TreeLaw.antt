@@ -172,7 +172,7 @@ reads_pcm source leaf side is =
     (reads_map (samples (n + n + n)) (λ l. Samples (thirds n l)) _ ((a ++ b) ++ c) r)
 
 -- pcm_flag and what follows
-reads_content : (source : Source) (before : List Leaf) (x y log2 : ℕ) (k : Kind) → IsSide log2 → IsSource source → AreModes before → IsMode k → is_skipped k ≡ false
+pub reads_content : (source : Source) (before : List Leaf) (x y log2 : ℕ) (k : Kind) → IsSide log2 → IsSource source → AreModes before → IsMode k → is_skipped k ≡ false
     → Reads (content_read before x y log2) (content_items source before (leaf_with x y log2 k) k) (content_of source (leaf_with x y log2 k) k)
 reads_content source before x y log2 Skip side is modes mode plain = absurd (cc)
 reads_content source before x y log2 Pcm side is modes mode plain =
@@ -180,7 +180,7 @@ reads_content source before x y log2 Pcm side is modes mode plain =
 reads_content source before x y log2 (Intra mode) side is modes small plain =
     reads_bin Terminate false (λ pcm. cond pcm (pcm_read (2 ^ log2 * 2 ^ log2)) (intra_read before x y log2)) _ _ (reads_intra source before x y log2 mode side is modes small)
 
-reads_part_mode : (log2 : ℕ) (read : Reader Content) (list : List Item) (c : Content) → Reads read list c
+pub reads_part_mode : (log2 : ℕ) (read : Reader Content) (list : List Item) (c : Content) → Reads read list c
     → Reads (part_mode_read log2 read) (cond (log2 == 3) (context_bin true 8 ∷ []) [] ++ list) c
 reads_part_mode log2 read list c r = go (log2 == 3)
   where

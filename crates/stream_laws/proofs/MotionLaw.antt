@@ -69,7 +69,7 @@ part_back p v h =
 
 -- ---- flags and sizes
 
-reads_expect : {A : Type 0} (place : Place) (value : Bool) (read : Reader A) (list : List Item) (a : A)
+pub reads_expect : {A : Type 0} (place : Place) (value : Bool) (read : Reader A) (list : List Item) (a : A)
     → Reads read list a → Reads (expect place value read) (items.Bin (record { value = value; place = place }) ∷ list) a
 reads_expect place true read list a r = reads_bin place true (λ b. cond (beq b true) read refuse) list a r
 reads_expect place false read list a r = reads_bin place false (λ b. cond (beq b false) read refuse) list a r
@@ -208,9 +208,11 @@ part_small v p hv hp =
 
 -- ---- the law
 
-pub reads_move : EachVectorIsRead
+-- what is made of the vector that is read
+pub reads_move_as : {A : Type 0} (c : Vector → A) (v : Vector) (both : Vector × Vector) → IsShort v → IsShort both.0 → IsShort both.1
+    → Reads (expect (Context 125) false (vector_read both >>= λ w. expect (Context 129) false (give (c w)))) (move_items v both) (c v)
 unfolding move_items vector_read
-reads_move v both hv h0 h1 =
+reads_move_as {A = A} c v both hv h0 h1 =
     let second : Bool = second_is_nearer v both in
     let p : Vector = predictor second both in
     let hp : IsShort p = short_predictor second both h0 h1 in
@@ -221,10 +223,13 @@ reads_move v both hv h0 h1 =
     let r_vector : Reads (difference_read >>= flag) (difference_items d ++ (context_bin second 126 ∷ [])) v =
     reads_then difference_read flag (difference_items d) (context_bin second 126 ∷ []) d v (difference_are d)
     (reads_difference d (part_small v.x p.x hv.x hp.x) (part_small v.y p.y hv.y hp.y)) r_flag in
-    let ends : Vector → Reader Vector = λ w. expect (Context 129) false (give w) in
-    let r_end : Reads (ends v) (context_bin false 129 ∷ []) v = reads_expect (Context 129) false (give v) [] v (reads_give v) in
+    let ends : Vector → Reader A = λ w. expect (Context 129) false (give (c w)) in
+    let r_end : Reads (ends v) (context_bin false 129 ∷ []) (c v) = reads_expect (Context 129) false (give (c v)) [] (c v) (reads_give (c v)) in
     let are : AreBins (difference_items d ++ (context_bin second 126 ∷ [])) = bins-append (difference_items d) (context_bin second 126 ∷ []) (difference_are d) tt in
-    let r_all : Reads ((difference_read >>= flag) >>= ends) ((difference_items d ++ (context_bin second 126 ∷ [])) ++ (context_bin false 129 ∷ [])) v =
-    reads_then (difference_read >>= flag) ends (difference_items d ++ (context_bin second 126 ∷ [])) (context_bin false 129 ∷ []) v v are r_vector r_end in
-    reads_expect (Context 125) false ((difference_read >>= flag) >>= ends) _ v
-    (reads_as ((difference_read >>= flag) >>= ends) _ _ v v (append_assoc (difference_items d) (context_bin second 126 ∷ []) (context_bin false 129 ∷ [])) refl r_all)
+    let r_all : Reads ((difference_read >>= flag) >>= ends) ((difference_items d ++ (context_bin second 126 ∷ [])) ++ (context_bin false 129 ∷ [])) (c v) =
+    reads_then (difference_read >>= flag) ends (difference_items d ++ (context_bin second 126 ∷ [])) (context_bin false 129 ∷ []) v (c v) are r_vector r_end in
+    reads_expect (Context 125) false ((difference_read >>= flag) >>= ends) _ (c v)
+    (reads_as ((difference_read >>= flag) >>= ends) _ _ (c v) (c v) (append_assoc (difference_items d) (context_bin second 126 ∷ []) (context_bin false 129 ∷ [])) refl r_all)
+
+pub reads_move : EachVectorIsRead
+reads_move v both hv h0 h1 = reads_move_as (λ w. w) v both hv h0 h1

@@ -1,16 +1,27 @@
 -- Laws over the definitions of streams: those that tie streams with moves, segments and hashes to plain ones, and what is read back.
-use Rattle.std.specs.Prelude.{◌≡◌, false, nat_abs, ◌≤◌, ℕ, List, map, Ok}
+use Rattle.std.specs.Prelude.{◌≡◌, true, false, nat_abs, ◌≤◌, ◌<◌, ℕ, List, [], ◌∷◌, map, Ok, IfSome}
+use Rattle.std.specs.List.{AllByRecursion}
 use Rattle.h265_model.specs.declared.Place.TheVariants.{Context}
 use Rattle.h265_model.specs.declared.moves.Vector.{Vector}
 use Rattle.h265_model.specs.Plain.{Size}
 use Rattle.h265_model.specs.ParamSets.{param_units, set_units}
 use Rattle.h265_model.specs.Engine.{Reads, ◌>>=◌, give}
-use Rattle.h265_model.specs.Tree.{expect, Source}
-use Rattle.h265_model.specs.Motion.{move_items, vector_read, still}
+use Rattle.h265_model.specs.Tree.{expect, Source, IsSource, AreModes}
+use Rattle.h265_model.specs.Residual.{IsSide}
+use Rattle.h265_model.specs.MotionTree.{Content, Copied, Moved, Samples, Levels, coding_unit_read}
+use Rattle.h265_model.specs.Motion.{Moving, leaves, leaf_as_coded, merge, has_source, move_items, vector_read, still}
+use Rattle.h265_model.specs.declared.moves.MoveLeaf.{MoveLeaf}
+use Rattle.h265_model.specs.declared.moves.MoveKind.{MoveKind}
+use Rattle.h265_model.specs.declared.moves.MoveKind.TheVariants as moves
+use Rattle.h265_model.specs.declared.leaf.SliceKind.TheVariants.{I, P}
 use Rattle.h265_model.specs.declared.leaf.SliceKind.{SliceKind}
 use Rattle.h265_model.specs.declared.leaf.Leaf.{Leaf}
 use Rattle.h265_model.specs.Slice.{row_code}
 use Rattle.h265_model.specs.Raster.{Raster}
+use Rattle.h265_model.specs.declared.extra.Extra.TheVariants.{Plain}
+use Rattle.h265_model.specs.Words.{Settings}
+use Rattle.h265_model.specs.Stream.{stream_of}
+use Rattle.h265_model.specs.ExtraStream.{extra_stream}
 use Rattle.h265_model.specs.Decode.{decode}
 use Rattle.h265_model.specs.DecodeAll.{decode_all}
 use Rattle.h265_model.specs.Walks.{UnitItems, still_unit, move_unit, code_of}
@@ -32,6 +43,40 @@ EachVectorIsRead =
     (v : Vector) (both : Vector × Vector) → IsShort v → IsShort both.0 → IsShort both.1 →
     Reads (expect (Context 125) false (vector_read both >>= λ w. expect (Context 129) false (give w))) (move_items v both) v
 
+-- ---- coding units
+
+-- units whose vectors are short
+abbrev pub AreShort : List Moving → Type 0
+AreShort units = AllByRecursion (λ unit. IfSome unit.vector IsShort) units
+
+-- what a unit of this kind needs to be read: no copy in an I slice, its source in the picture, a short vector, a mode
+abbrev pub CanStand : SliceKind → Size → List Moving → ℕ → ℕ → ℕ → MoveKind → Type 0
+CanStand I size before x y log2 moves.Skip = ⊥
+CanStand P size before x y log2 moves.Skip = has_source size x y log2 (merge before x y log2) ≡ true
+CanStand I size before x y log2 (moves.Move v) = ⊥
+CanStand P size before x y log2 (moves.Move v) = IsShort v × (has_source size x y log2 v ≡ true)
+CanStand kind size before x y log2 moves.Pcm = Unit {0}
+CanStand kind size before x y log2 (moves.Intra mode) = mode < 35
+
+-- what is read of a unit
+abbrev pub unit_content : Source → List Moving → MoveLeaf → MoveKind → Content
+unit_content source before unit moves.Skip = Copied (merge before unit.x unit.y unit.log2)
+unit_content source before unit (moves.Move v) = Moved v
+unit_content source before unit moves.Pcm =
+    let leaf : Leaf = leaf_as_coded unit in
+    Samples (source.samples leaf 0 ∷ source.samples leaf 1 ∷ source.samples leaf 2 ∷ [])
+unit_content source before unit (moves.Intra mode) =
+    let leaf : Leaf = leaf_as_coded unit in
+    Levels mode (source.levels leaf 0 ∷ source.levels leaf 1 ∷ source.levels leaf 2 ∷ [])
+
+-- a coding unit where blocks may move (7.3.8.5)
+abbrev pub EachUnitIsRead : Type 0
+EachUnitIsRead =
+    (kind : SliceKind) (size : Size) (source : Source) (before : List Moving) (x y log2 : ℕ) (k : MoveKind) → IsSide log2 → IsSource source →
+    AreModes (leaves before) → AreShort before → CanStand kind size before x y log2 k →
+    Reads (coding_unit_read kind size before x y log2) (move_unit kind source before (record { x = x; y = y; log2 = log2; kind = k }))
+    (record { x = x; y = y; log2 = log2; content = unit_content source before (record { x = x; y = y; log2 = log2; kind = k }) k } ∷ [])
+
 -- ---- rows
 
 -- the rows that units give where none moves
@@ -45,6 +90,10 @@ abbrev pub EachRowIsStill : Type 0
 EachRowIsStill = AreStill still_unit × AreStill move_unit
 
 -- ---- streams
+
+-- streams of pictures alone
+abbrev pub EachPlainStreamIsThat : Type 0
+EachPlainStreamIsThat = (settings : Settings) (pictures : List Raster) → extra_stream settings Plain pictures ≡ stream_of settings pictures
 
 -- a stream that was decoded without regard to moves, segments and hashes is decoded to the same
 abbrev pub EachOldStreamIsDecoded : Type 0

@@ -1,7 +1,7 @@
 //! Laws over the definitions of streams that may have hashes, segments and moved blocks. Each function does nothing: its clause is the law.
 #![tactic(auto)]
 
-ghost use Rattle.stream_laws.specs.Laws.{EachSetIsPlain, EachVectorIsRead, EachRowIsStill, EachOldStreamIsDecoded};
+ghost use Rattle.stream_laws.specs.Laws.{EachSetIsPlain, EachVectorIsRead, EachRowIsStill, EachOldStreamIsDecoded, EachPlainStreamIsThat};
 
 /// Without segments the parameter sets are those of a size.
 pub fn each_set_is_plain()
@@ -21,4 +21,9 @@ pub fn each_row_is_still()
 /// A stream that was decoded without regard to moves, segments and hashes is decoded to the same.
 pub fn each_old_stream_is_decoded()
     ensures { EachOldStreamIsDecoded }
+{}
+
+/// The stream of pictures alone is the plain one.
+pub fn each_plain_stream_is_that()
+    ensures { EachPlainStreamIsThat }
 {}
