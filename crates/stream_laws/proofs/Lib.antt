@@ -11,3 +11,4 @@ pub mod OldTree
 pub mod OldRows
 pub mod OldPictures
 pub mod OldStreams
+pub mod UnitLaw

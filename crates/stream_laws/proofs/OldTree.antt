@@ -181,7 +181,7 @@ content_refines before x y log2 =
     refines_bind (λ a. a) content_as (samples (n + n + n)) _ _ _ (refines_same _) (λ list. refines_give content_as (Tree.Samples (thirds n list)) (Samples (thirds n list)) refl))
     (intra_refines before x y log2))
 
-own_refines : (before : List Moving) (x y log2 : ℕ) → Refines content_as (part_mode_read log2 (Tree.content_read (leaves before) x y log2)) (own_read before x y log2)
+pub own_refines : (before : List Moving) (x y log2 : ℕ) → Refines content_as (part_mode_read log2 (Tree.content_read (leaves before) x y log2)) (own_read before x y log2)
 own_refines before x y log2 =
     refines_cond content_as (log2 == 3) (expect (Context 8) true (Tree.content_read (leaves before) x y log2)) (Tree.content_read (leaves before) x y log2)
     (expect (Context 8) true (content_read before x y log2)) (content_read before x y log2)

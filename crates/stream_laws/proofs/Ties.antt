@@ -1,6 +1,6 @@
 -- What streams without segments, hashes and moves have in common with plain ones.
-use Rattle.std.proofs.Common.{◌≡◌, refl, sym, ◌∙◌, ap, ℕ, ◌+◌, List, [], ◌∷◌}
-use Rattle.std.specs.Prelude.{Option, Some, None, false}
+use Rattle.std.proofs.Common.{◌≡◌, refl, ◌∙◌, ap, ℕ, ◌+◌, List, [], ◌∷◌}
+use Rattle.std.specs.Prelude.{Option, Some, None}
 use Rattle.h265_model.specs.declared.extra.Extra.TheVariants.{Plain}
 use Rattle.h265_model.specs.Plain.{joined}
 use Rattle.h265_model.specs.Words.{Settings}

@@ -1,7 +1,7 @@
 //! Laws over the definitions of streams that may have hashes, segments and moved blocks. Each function does nothing: its clause is the law.
 #![tactic(auto)]
 
-ghost use Rattle.stream_laws.specs.Laws.{EachSetIsPlain, EachVectorIsRead, EachRowIsStill, EachOldStreamIsDecoded, EachPlainStreamIsThat};
+ghost use Rattle.stream_laws.specs.Laws.{EachSetIsPlain, EachVectorIsRead, EachRowIsStill, EachOldStreamIsDecoded, EachPlainStreamIsThat, EachUnitIsRead};
 
 /// Without segments the parameter sets are those of a size.
 pub fn each_set_is_plain()
@@ -26,4 +26,9 @@ pub fn each_old_stream_is_decoded()
 /// The stream of pictures alone is the plain one.
 pub fn each_plain_stream_is_that()
     ensures { EachPlainStreamIsThat }
+{}
+
+/// Each coding unit is read back where blocks may move.
+pub fn each_unit_is_read()
+    ensures { EachUnitIsRead }
 {}
