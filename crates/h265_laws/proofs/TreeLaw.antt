@@ -414,7 +414,7 @@ takes_flag walk read other source before leaves context value t = record {
 }
 
 -- 8, 16 or 32
-depth_side : (depth : ℕ) → depth < 2 → IsSide (4 + depth)
+pub depth_side : (depth : ℕ) → depth < 2 → IsSide (4 + depth)
 depth_side zero h = sixteen
 depth_side (suc zero) h = thirty_two
 depth_side (suc (suc depth)) h = absurd (omega arith)

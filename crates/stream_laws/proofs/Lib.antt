@@ -12,3 +12,4 @@ pub mod OldRows
 pub mod OldPictures
 pub mod OldStreams
 pub mod UnitLaw
+pub mod UnitTreeLaw

@@ -82,6 +82,14 @@ predictors_short units x y log2 h =
     (first_short (a0 units x y n ∷ a1 units x y n ∷ []) (before_short units x (y + n + 1) h, (before_short units x (y + n) h, tt)))
     (first_short (b0 units x y n ∷ b1 units x y n ∷ b2 units x y ∷ []) (before_short units (x + n + 1) y h, (before_short units (x + n) y h, (before_short units x y h, tt))))
 
+pub merge_short : (units : List Moving) (x y log2 : ℕ) → AreShort units → IsShort (merge units x y log2)
+unfolding merge
+merge_short units x y log2 h =
+    let n : ℕ = 2 ^ log2 in
+    or_short (first_vector (a1 units x y n ∷ b1 units x y n ∷ b0 units x y n ∷ a0 units x y n ∷ b2 units x y ∷ []))
+    (first_short (a1 units x y n ∷ b1 units x y n ∷ b0 units x y n ∷ a0 units x y n ∷ b2 units x y ∷ [])
+    (before_short units x (y + n) h, (before_short units (x + n) y h, (before_short units (x + n + 1) y h, (before_short units x (y + n + 1) h, (before_short units x y h, tt))))))
+
 -- ---- readings that end in a test
 
 reads_into : {A B : Type 0} (read : Reader A) (f : A → Reader B) (list : List Item) (a : A) (b : B) → Reads read list a → f a ≡ give b → Reads (read >>= f) list b

@@ -1,15 +1,16 @@
 -- Laws over the definitions of streams: those that tie streams with moves, segments and hashes to plain ones, and what is read back.
-use Rattle.std.specs.Prelude.{◌≡◌, true, false, nat_abs, ◌≤◌, ◌<◌, ℕ, List, [], ◌∷◌, map, Ok, IfSome}
+use Rattle.std.specs.Prelude.{◌≡◌, true, false, nat_abs, ◌≤◌, ◌<◌, ℕ, zero, suc, ◌+◌, ◌*◌, ◌^◌, ◌⊎◌, MatchBool, List, [], ◌∷◌, ◌++◌, map, Ok, IfSome}
 use Rattle.std.specs.List.{AllByRecursion}
 use Rattle.h265_model.specs.declared.Place.TheVariants.{Context}
 use Rattle.h265_model.specs.declared.moves.Vector.{Vector}
-use Rattle.h265_model.specs.Plain.{Size}
+use Rattle.h265_model.specs.Plain.{Size, ctu_x, ctu_y}
 use Rattle.h265_model.specs.ParamSets.{param_units, set_units}
 use Rattle.h265_model.specs.Engine.{Reads, ◌>>=◌, give}
-use Rattle.h265_model.specs.Tree.{expect, Source, IsSource, AreModes}
+use Rattle.h265_model.specs.Tree.{expect, Source, IsSource, AreModes, is_whole}
+use Rattle.h265_model.specs.Predict.{is_inside}
 use Rattle.h265_model.specs.Residual.{IsSide}
-use Rattle.h265_model.specs.MotionTree.{Content, Copied, Moved, Samples, Levels, coding_unit_read}
-use Rattle.h265_model.specs.Motion.{Moving, leaves, leaf_as_coded, merge, has_source, move_items, vector_read, still}
+use Rattle.h265_model.specs.MotionTree.{Content, Copied, Moved, Samples, Levels, ReadUnit, coding_unit_read, ctu_read}
+use Rattle.h265_model.specs.Motion.{Moving, leaves, leaf_as_coded, as_coded, merge, has_source, move_items, vector_read, still}
 use Rattle.h265_model.specs.declared.moves.MoveLeaf.{MoveLeaf}
 use Rattle.h265_model.specs.declared.moves.MoveKind.{MoveKind}
 use Rattle.h265_model.specs.declared.moves.MoveKind.TheVariants as moves
@@ -24,7 +25,7 @@ use Rattle.h265_model.specs.Stream.{stream_of}
 use Rattle.h265_model.specs.ExtraStream.{extra_stream}
 use Rattle.h265_model.specs.Decode.{decode}
 use Rattle.h265_model.specs.DecodeAll.{decode_all}
-use Rattle.h265_model.specs.Walks.{UnitItems, still_unit, move_unit, code_of}
+use Rattle.h265_model.specs.Walks.{UnitItems, ctu_items_of, still_unit, move_unit, code_of}
 
 -- parameter sets without segments (7.3.2)
 abbrev pub EachSetIsPlain : Type 0
@@ -76,6 +77,53 @@ EachUnitIsRead =
     AreModes (leaves before) → AreShort before → CanStand kind size before x y log2 k →
     Reads (coding_unit_read kind size before x y log2) (move_unit kind source before (record { x = x; y = y; log2 = log2; kind = k }))
     (record { x = x; y = y; log2 = log2; content = unit_content source before (record { x = x; y = y; log2 = log2; kind = k }) k } ∷ [])
+
+-- ---- coding tree units
+
+-- each unit can stand after those before it
+abbrev pub CanStandAll : SliceKind → Size → List Moving → List MoveLeaf → Type 0
+CanStandAll kind size before [] = Unit {0}
+CanStandAll kind size before (unit ∷ units) =
+    CanStand kind size before unit.x unit.y unit.log2 unit.kind × CanStandAll kind size (before ++ as_coded before unit ∷ []) units
+
+-- what is read of some units after those before
+abbrev pub reads_after : Source → List Moving → List MoveLeaf → List ReadUnit
+reads_after source before [] = []
+reads_after source before (unit ∷ units) =
+    record { x = unit.x; y = unit.y; log2 = unit.log2; content = unit_content source before unit unit.kind } ∷ reads_after source (before ++ as_coded before unit ∷ []) units
+
+-- the units of a block of side 2 ^ (3 + depth) at (x, y), in the order of coding (7.3.8.4)
+pub record IsOneUnit (x y log2 : ℕ) (units : List MoveLeaf) : Type 0 where
+  pub kind : MoveKind
+  pub one : units ≡ record { x = x; y = y; log2 = log2; kind = kind } ∷ []
+
+pub record AreFourParts (Tree : ℕ → ℕ → List MoveLeaf → Type 0) (half x y : ℕ) (units : List MoveLeaf) : Type 0 where
+  pub first : List MoveLeaf
+  pub second : List MoveLeaf
+  pub third : List MoveLeaf
+  pub fourth : List MoveLeaf
+  pub together : units ≡ first ++ second ++ third ++ fourth
+  pub top_left : Tree x y first
+  pub top_right : Tree (x + half) y second
+  pub bottom_left : Tree x (y + half) third
+  pub bottom_right : Tree (x + half) (y + half) fourth
+
+abbrev pub IsUnitTree : Size → ℕ → ℕ → ℕ → List MoveLeaf → Type 0
+IsUnitTree size zero x y units = MatchBool (is_inside size x y) (IsOneUnit x y 3 units) (units ≡ [])
+IsUnitTree size (suc depth) x y units =
+    let half : ℕ = 2 ^ (3 + depth) in
+    MatchBool (is_inside size x y)
+    (MatchBool (is_whole size (2 * half) x y)
+    (IsOneUnit x y (4 + depth) units ⊎ AreFourParts (IsUnitTree size depth) half x y units)
+    (AreFourParts (IsUnitTree size depth) half x y units))
+    (units ≡ [])
+
+-- a coding tree unit where blocks may move (7.3.8.2)
+abbrev pub EachUnitTreeIsRead : Type 0
+EachUnitTreeIsRead =
+    (kind : SliceKind) (size : Size) (source : Source) (ctu : ℕ) (before : List Moving) (units : List MoveLeaf) → IsSource source →
+    AreModes (leaves before) → AreShort before → IsUnitTree size 2 (ctu_x size ctu) (ctu_y size ctu) units → CanStandAll kind size before units →
+    Reads (ctu_read kind size before ctu) (ctu_items_of (move_unit kind source) size before units ctu) (reads_after source before units)
 
 -- ---- rows
 

@@ -1,7 +1,7 @@
 //! Laws over the definitions of streams that may have hashes, segments and moved blocks. Each function does nothing: its clause is the law.
 #![tactic(auto)]
 
-ghost use Rattle.stream_laws.specs.Laws.{EachSetIsPlain, EachVectorIsRead, EachRowIsStill, EachOldStreamIsDecoded, EachPlainStreamIsThat, EachUnitIsRead};
+ghost use Rattle.stream_laws.specs.Laws.{EachSetIsPlain, EachVectorIsRead, EachRowIsStill, EachOldStreamIsDecoded, EachPlainStreamIsThat, EachUnitIsRead, EachUnitTreeIsRead};
 
 /// Without segments the parameter sets are those of a size.
 pub fn each_set_is_plain()
@@ -31,4 +31,9 @@ pub fn each_plain_stream_is_that()
 /// Each coding unit is read back where blocks may move.
 pub fn each_unit_is_read()
     ensures { EachUnitIsRead }
+{}
+
+/// Each coding tree unit is read back where blocks may move.
+pub fn each_unit_tree_is_read()
+    ensures { EachUnitTreeIsRead }
 {}
