@@ -66,7 +66,7 @@ pub in_parts : (front poc middle entries : List Field) (rest : List Bool) →
     fields_bits (front ++ (poc ++ (middle ++ entries))) ++ rest ≡ fields_bits front ++ (fields_bits poc ++ (fields_bits middle ++ (fields_bits entries ++ rest)))
 in_parts front poc middle entries rest = simp (fields_bits-append, append_assoc)
 
-all_but : (n m k : ℕ) → k ≡ 8 * m → n + m - k / 8 ≡ n
+pub all_but : (n m k : ℕ) → k ≡ 8 * m → n + m - k / 8 ≡ n
 all_but n m k h = omega arith
 
 pub read_head-head_bits : EachHeadIsRead

@@ -33,10 +33,10 @@ pps_fits = refl
 
 -- ---- a set of known fields
 
-set_bits-set_unit : (first : ℕ) (fields : List Field) → set_bits first (set_unit first fields) ≡ Ok (fields_bits fields ++ alignment (length (fields_bits fields)))
+pub set_bits-set_unit : (first : ℕ) (fields : List Field) → set_bits first (set_unit first fields) ≡ Ok (fields_bits fields ++ alignment (length (fields_bits fields)))
 set_bits-set_unit first fields = rw (same first) (ap Ok (bits-aligned_bits (fields_bits fields)))
 
-fixed_set_read : (first trailing : ℕ) (fields : List Field) → all_fit fields ≡ true → read_fixed_set first fields trailing (set_unit first fields) ≡ Ok tt
+pub fixed_set_read : (first trailing : ℕ) (fields : List Field) → all_fit fields ≡ true → read_fixed_set first fields trailing (set_unit first fields) ≡ Ok tt
 fixed_set_read first trailing fields h =
     let end = alignment (length (fields_bits fields)) in
     ap (λ r. r >>- λ bits. read_fields fields bits >>- λ rest. read_trailing trailing rest) (set_bits-set_unit first fields)

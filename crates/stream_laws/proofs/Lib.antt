@@ -13,3 +13,5 @@ pub mod OldPictures
 pub mod OldStreams
 pub mod UnitLaw
 pub mod UnitTreeLaw
+pub mod SetsLaw
+pub mod SegmentLaw

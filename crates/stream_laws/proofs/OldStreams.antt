@@ -239,7 +239,7 @@ pps_same size unit h = headed (set_bits 0x44 unit) h
 abbrev paired : Size → Bool → Result (Size × Bool) BadParam
 paired size segments = Ok (size, segments)
 
-sets_same : (us : List NalUnit) (size : Size) → read_params us ≡ Ok size → read_sets us ≡ Ok (size, false)
+pub sets_same : (us : List NalUnit) (size : Size) → read_params us ≡ Ok size → read_sets us ≡ Ok (size, false)
 unfolding read_params read_sets
 sets_same [] size h = absurd (cc)
 sets_same (a ∷ []) size h = absurd (cc)

@@ -1,10 +1,12 @@
 -- Laws over the definitions of streams: those that tie streams with moves, segments and hashes to plain ones, and what is read back.
-use Rattle.std.specs.Prelude.{◌≡◌, true, false, nat_abs, ◌≤◌, ◌<◌, ℕ, zero, suc, ◌+◌, ◌*◌, ◌^◌, ◌⊎◌, MatchBool, List, [], ◌∷◌, ◌++◌, map, Ok, IfSome}
+use Rattle.std.specs.Prelude.{◌≡◌, true, false, nat_abs, ◌≤◌, ◌<◌, ℕ, zero, suc, ◌+◌, ◌*◌, ◌^◌, ◌⊎◌, MatchBool, List, [], ◌∷◌, ◌++◌, map, Ok, IfSome, Bool, IsTrue, length}
 use Rattle.std.specs.List.{AllByRecursion}
 use Rattle.h265_model.specs.declared.Place.TheVariants.{Context}
 use Rattle.h265_model.specs.declared.moves.Vector.{Vector}
-use Rattle.h265_model.specs.Plain.{Size, ctu_x, ctu_y}
-use Rattle.h265_model.specs.ParamSets.{param_units, set_units}
+use Rattle.h265_model.specs.Plain.{Size, coded, ctu_x, ctu_y}
+use Rattle.h265_model.specs.Bits.{bytes}
+use Rattle.h265_model.specs.SliceHead.{segment_bits, read_segment_head}
+use Rattle.h265_model.specs.ParamSets.{param_units, set_units, read_sets}
 use Rattle.h265_model.specs.Engine.{Reads, ◌>>=◌, give}
 use Rattle.h265_model.specs.Tree.{expect, Source, IsSource, AreModes, is_whole}
 use Rattle.h265_model.specs.Predict.{is_inside}
@@ -20,7 +22,7 @@ use Rattle.h265_model.specs.declared.leaf.Leaf.{Leaf}
 use Rattle.h265_model.specs.Slice.{row_code}
 use Rattle.h265_model.specs.Raster.{Raster}
 use Rattle.h265_model.specs.declared.extra.Extra.TheVariants.{Plain}
-use Rattle.h265_model.specs.Words.{Settings}
+use Rattle.h265_model.specs.Words.{Settings, is_size}
 use Rattle.h265_model.specs.Stream.{stream_of}
 use Rattle.h265_model.specs.ExtraStream.{extra_stream}
 use Rattle.h265_model.specs.Decode.{decode}
@@ -30,6 +32,22 @@ use Rattle.h265_model.specs.Walks.{UnitItems, ctu_items_of, still_unit, move_uni
 -- parameter sets without segments (7.3.2)
 abbrev pub EachSetIsPlain : Type 0
 EachSetIsPlain = (size : Size) → set_units size false ≡ param_units size
+
+-- a size and whether a picture has a segment for each row, from their parameter sets
+abbrev pub EachSetIsRead : Type 0
+EachSetIsRead =
+    (size : Size) (segments : Bool) → IsTrue (is_size size) → (segments ≡ true → 32 < coded size.w) → read_sets (set_units size segments) ≡ Ok (size, segments)
+
+-- the order count that a segment's header tells
+abbrev pub order_told : ℕ → ℕ → ℕ
+order_told zero poc = poc
+order_told (suc address) poc = 0
+
+-- a slice segment header, whatever follows it (7.3.6.1)
+abbrev pub EachSegmentHeadIsRead : Type 0
+EachSegmentHeadIsRead =
+    (idr : Bool) (poc address ctus : ℕ) (rest : List ℕ) → poc < 256 → (IsTrue idr → poc ≡ 0) → address < ctus → ctus ≤ 2 ^ 32 →
+    read_segment_head (bytes (segment_bits idr poc address ctus) ++ rest) idr address ctus ≡ Ok (order_told address poc, length (bytes (segment_bits idr poc address ctus)))
 
 -- ---- vectors
 

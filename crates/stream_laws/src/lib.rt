@@ -1,7 +1,7 @@
 //! Laws over the definitions of streams that may have hashes, segments and moved blocks. Each function does nothing: its clause is the law.
 #![tactic(auto)]
 
-ghost use Rattle.stream_laws.specs.Laws.{EachSetIsPlain, EachVectorIsRead, EachRowIsStill, EachOldStreamIsDecoded, EachPlainStreamIsThat, EachUnitIsRead, EachUnitTreeIsRead};
+ghost use Rattle.stream_laws.specs.Laws.{EachSetIsPlain, EachVectorIsRead, EachRowIsStill, EachOldStreamIsDecoded, EachPlainStreamIsThat, EachUnitIsRead, EachUnitTreeIsRead, EachSetIsRead, EachSegmentHeadIsRead};
 
 /// Without segments the parameter sets are those of a size.
 pub fn each_set_is_plain()
@@ -36,4 +36,14 @@ pub fn each_unit_is_read()
 /// Each coding tree unit is read back where blocks may move.
 pub fn each_unit_tree_is_read()
     ensures { EachUnitTreeIsRead }
+{}
+
+/// Each size is read back from its parameter sets, with whether a picture has a segment for each row.
+pub fn each_set_is_read()
+    ensures { EachSetIsRead }
+{}
+
+/// Each slice segment header is read back.
+pub fn each_segment_head_is_read()
+    ensures { EachSegmentHeadIsRead }
 {}
