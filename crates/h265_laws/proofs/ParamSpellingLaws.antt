@@ -20,22 +20,22 @@ use Rattle.h265_laws.proofs.ParamLaws.{sps_in_parts}
 -- ---- sets
 
 -- the bytes of a table are those of its bits with their end
-rbsp_is : (number : ℕ) (rbsp : List ℕ) (table rest : List Bool) → AreBytes rbsp → bits rbsp ≡ table ++ rest → read_trailing number rest ≡ Ok tt → rbsp ≡ bytes (aligned_bits table)
+pub rbsp_is : (number : ℕ) (rbsp : List ℕ) (table rest : List Bool) → AreBytes rbsp → bits rbsp ≡ table ++ rest → read_trailing number rest ≡ Ok tt → rbsp ≡ bytes (aligned_bits table)
 rbsp_is number rbsp table rest are e h =
     let whole = ap (λ m. m % 8) (sym (length-append table rest)) ∙ ap (λ l. length l % 8) (sym e) ∙ length-bits-mod rbsp in
     sym (bytes-bits rbsp are) ∙ ap bytes (e ∙ ap (λ l. table ++ l) (read_trailing-is number (length table) rest whole h))
 
-unit_is : (first : ℕ) (fields : List Field) (unit : NalUnit) → unit.header ≡ first ∷ 1 ∷ [] → unit.rbsp ≡ bytes (aligned_bits (fields_bits fields)) → unit ≡ set_unit first fields
+pub unit_is : (first : ℕ) (fields : List Field) (unit : NalUnit) → unit.header ≡ first ∷ 1 ∷ [] → unit.rbsp ≡ bytes (aligned_bits (fields_bits fields)) → unit ≡ set_unit first fields
 unit_is first fields unit h k =
     ap (λ l. record { header = l; rbsp = unit.rbsp }) h ∙ ap (λ l. record { header = first ∷ 1 ∷ []; rbsp = l }) k
 
-set_is : (first : ℕ) (unit : NalUnit) (bs : List Bool) → set_bits first unit ≡ Ok bs → (unit.header ≡ first ∷ 1 ∷ []) × (bits unit.rbsp ≡ bs)
+pub set_is : (first : ℕ) (unit : NalUnit) (bs : List Bool) → set_bits first unit ≡ Ok bs → (unit.header ≡ first ∷ 1 ∷ []) × (bits unit.rbsp ≡ bs)
 set_is first unit bs h =
     let test = passed (bytes_eq unit.header (first ∷ 1 ∷ [])) (Ok (bits unit.rbsp)) 0 bs h in
     let same : bits unit.rbsp ≡ bs = let e = test.1 in cc in
     ((bytes_eq-Decides unit.header (first ∷ 1 ∷ [])).0 test.0, same)
 
-fixed_set_is : (first trailing : ℕ) (fields : List Field) (unit : NalUnit) → AreBytes unit.rbsp → read_fixed_set first fields trailing unit ≡ Ok tt → unit ≡ set_unit first fields
+pub fixed_set_is : (first trailing : ℕ) (fields : List Field) (unit : NalUnit) → AreBytes unit.rbsp → read_fixed_set first fields trailing unit ≡ Ok tt → unit ≡ set_unit first fields
 fixed_set_is first trailing fields unit are h =
     let start = went (set_bits first unit) (λ bits. read_fields fields bits >>- λ rest. read_trailing trailing rest) tt h in
     let set = set_is first unit start.value start.first in
@@ -163,7 +163,7 @@ window_is w h bs found a b e =
     moved (ue w ++ (ue h ++ (u 1 1 ++ bs))) (size, e.rest) found
     (put_together size w h true window bs e.rest cw ch padded (window_of w h e.right e.bottom padded cw ch some_w some_h) e.spelling) e.is
 
-is_one : (v : ℕ) → v < 2 ^ 1 → (v == 0) ≡ false → v ≡ 1
+pub is_one : (v : ℕ) → v < 2 ^ 1 → (v == 0) ≡ false → v ≡ 1
 is_one v h k = grind (arith, nat_tests)
 
 either_is : (w h padded : ℕ) (rest : List Bool) (found : Size × List Bool) → IsCodedSide w → IsCodedSide h → padded < 2 ^ 1 →
@@ -202,7 +202,7 @@ sps_bits : (size : List Field) (unit : NalUnit) (bs a b rest : List Bool) → bi
 sps_bits size unit bs a b rest e f g h =
     e ∙ f ∙ ap (λ l. fields_bits sps_front ++ l) (g ∙ ap (λ l. fields_bits size ++ l) h) ∙ sym (sps_in_parts sps_front size sps_back rest)
 
-sps_is : (unit : NalUnit) (size : Size) → AreBytes unit.rbsp → read_sps unit ≡ Ok size → unit ≡ set_unit 0x42 (sps_fields size)
+pub sps_is : (unit : NalUnit) (size : Size) → AreBytes unit.rbsp → read_sps unit ≡ Ok size → unit ≡ set_unit 0x42 (sps_fields size)
 sps_is unit size are e =
     let start = went (set_bits 0x42 unit)
     (λ bits. read_fields sps_front bits >>- λ bits. read_size bits >>- λ size. read_fields sps_back size.1 >>- λ bits. read_trailing 63 bits >>- λ _. Ok size.0) size e in
@@ -217,7 +217,7 @@ sps_is unit size are e =
     unit_is 0x42 (sps_fields read.value.0) unit set.0 (rbsp_is 63 unit.rbsp (fields_bits (sps_fields read.value.0)) back.value are all end.first)
     ∙ ap (λ s. set_unit 0x42 (sps_fields s)) same
 
-told : {A : Type 0} (set : ℕ) (r : Result A ℕ) (y : A) → in_set set r ≡ Ok y → r ≡ Ok y
+pub told : {A : Type 0} (set : ℕ) (r : Result A ℕ) (y : A) → in_set set r ≡ Ok y → r ≡ Ok y
 told set (Ok x) y h = cc
 told set (Err e) y h = absurd (cc)
 

@@ -15,3 +15,4 @@ pub mod UnitLaw
 pub mod UnitTreeLaw
 pub mod SetsLaw
 pub mod SegmentLaw
+pub mod SetsSpelling

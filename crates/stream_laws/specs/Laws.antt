@@ -3,8 +3,9 @@ use Rattle.std.specs.Prelude.{◌≡◌, true, false, nat_abs, ◌≤◌, ◌<�
 use Rattle.std.specs.List.{AllByRecursion}
 use Rattle.h265_model.specs.declared.Place.TheVariants.{Context}
 use Rattle.h265_model.specs.declared.moves.Vector.{Vector}
-use Rattle.h265_model.specs.Plain.{Size, coded, ctu_x, ctu_y}
+use Rattle.h265_model.specs.Plain.{Size, AreBytes, coded, ctu_x, ctu_y}
 use Rattle.h265_model.specs.Bits.{bytes}
+use Rattle.h265_model.specs.NalUnits.{NalUnit}
 use Rattle.h265_model.specs.SliceHead.{segment_bits, read_segment_head}
 use Rattle.h265_model.specs.ParamSets.{param_units, set_units, read_sets}
 use Rattle.h265_model.specs.Engine.{Reads, ◌>>=◌, give}
@@ -37,6 +38,12 @@ EachSetIsPlain = (size : Size) → set_units size false ≡ param_units size
 abbrev pub EachSetIsRead : Type 0
 EachSetIsRead =
     (size : Size) (segments : Bool) → IsTrue (is_size size) → (segments ≡ true → 32 < coded size.w) → read_sets (set_units size segments) ≡ Ok (size, segments)
+
+-- and nothing else is read as these
+abbrev pub EachSetIsSpelled : Type 0
+EachSetIsSpelled =
+    (us : List NalUnit) (size : Size) (segments : Bool) → AllByRecursion (λ unit. AreBytes unit.rbsp) us → read_sets us ≡ Ok (size, segments) →
+    (us ≡ set_units size segments) × (segments ≡ true → 32 < coded size.w)
 
 -- the order count that a segment's header tells
 abbrev pub order_told : ℕ → ℕ → ℕ

@@ -1,7 +1,7 @@
 //! Laws over the definitions of streams that may have hashes, segments and moved blocks. Each function does nothing: its clause is the law.
 #![tactic(auto)]
 
-ghost use Rattle.stream_laws.specs.Laws.{EachSetIsPlain, EachVectorIsRead, EachRowIsStill, EachOldStreamIsDecoded, EachPlainStreamIsThat, EachUnitIsRead, EachUnitTreeIsRead, EachSetIsRead, EachSegmentHeadIsRead};
+ghost use Rattle.stream_laws.specs.Laws.{EachSetIsPlain, EachVectorIsRead, EachRowIsStill, EachOldStreamIsDecoded, EachPlainStreamIsThat, EachUnitIsRead, EachUnitTreeIsRead, EachSetIsRead, EachSegmentHeadIsRead, EachSetIsSpelled};
 
 /// Without segments the parameter sets are those of a size.
 pub fn each_set_is_plain()
@@ -46,4 +46,9 @@ pub fn each_set_is_read()
 /// Each slice segment header is read back.
 pub fn each_segment_head_is_read()
     ensures { EachSegmentHeadIsRead }
+{}
+
+/// Nothing but its parameter sets is read as a size with or without a segment for each row.
+pub fn each_set_is_spelled()
+    ensures { EachSetIsSpelled }
 {}
