@@ -23,7 +23,7 @@ likely_share n range contexts r h = cond-false (nat_le (range - lps_range (get_o
 
 unlikely_share : (n range : ℕ) (contexts : List ℕ) (r : Reading) → range - lps_range (get_or contexts n 0) (range / 64 % 4) ≤ r.offset
     → context_read n (engine range contexts r) ≡ with_bin (not (mps (get_or contexts n 0)))
-      (renormalised (record (engine (lps_range (get_or contexts n 0) (range / 64 % 4)) (step contexts n (not (mps (get_or contexts n 0)))) r) { offset = r.offset - (range - lps_range (get_or contexts n 0) (range / 64 % 4)) }))
+    (renormalised (record (engine (lps_range (get_or contexts n 0) (range / 64 % 4)) (step contexts n (not (mps (get_or contexts n 0)))) r) { offset = r.offset - (range - lps_range (get_or contexts n 0) (range / 64 % 4)) }))
 unfolding context_read
 unlikely_share n range contexts r h = cond-true (nat_le (range - lps_range (get_or contexts n 0) (range / 64 % 4)) r.offset) _ _ (le-leb _ _ h)
 

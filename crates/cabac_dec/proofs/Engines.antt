@@ -141,14 +141,17 @@ number_by acc d p q = omega arith
 
 -- the value of n bins after those, and the engine after them
 abbrev pub read_of : ℕ → ℕ → ℕ → ℕ → List ℕ → Bool → List Bool → ℕ × Engine
-read_of n acc range offset contexts last xs =
-    (acc * 2 ^ n + value_after offset (take n xs) / range,
-      eng range (value_after offset (take n xs) - value_after offset (take n xs) / range * range) contexts (last_of last (take n xs)) (drop n xs))
+read_of n acc range offset contexts last xs = (
+  acc * 2 ^ n + value_after offset (take n xs) / range,
+  eng range (value_after offset (take n xs) - value_after offset (take n xs) / range * range) contexts (last_of last (take n xs)) (drop n xs),
+)
 
 fl_more : (n acc range x : ℕ) (contexts : List ℕ) (b : Bool) (xs : List Bool) → n ≤ length xs → (s : Halved range x contexts b xs)
     → read_of n (2 * acc + digit s.bin) range s.offset contexts b xs
-    ≡ (acc * 2 ^ suc n + value_after x (take n xs) / range,
-      eng range (value_after x (take n xs) - value_after x (take n xs) / range * range) contexts (last_of b (take n xs)) (drop n xs))
+    ≡ (
+      acc * 2 ^ suc n + value_after x (take n xs) / range,
+      eng range (value_after x (take n xs) - value_after x (take n xs) / range * range) contexts (last_of b (take n xs)) (drop n xs),
+    )
 fl_more n acc range x contexts b xs h s =
     let v = value_after x (take n xs) in
     let w = value_after s.offset (take n xs) in
@@ -216,7 +219,7 @@ pub started : (ahead : ℕ) (contexts : List ℕ) (r : Reading) → r.offset ≡
 unfolding start
 started ahead contexts r none h small =
     sym (ap (λ o. and_then o tested) (begun contexts r none h) ∙ cond-true (nat_lt (offset_after 9 r) 510) _ _ (lt-ltb _ _ small)
-      ∙ ap (λ (e : Engine). Some e) (ap (λ o. eng 510 o contexts (last_of (last_read r) (take 9 (left r))) (drop 9 (left r))) (no_less (offset_after 9 r)) ∙ engine_after 9 0 510 ahead contexts r))
+    ∙ ap (λ (e : Engine). Some e) (ap (λ o. eng 510 o contexts (last_of (last_read r) (take 9 (left r))) (drop 9 (left r))) (no_less (offset_after 9 r)) ∙ engine_after 9 0 510 ahead contexts r))
   where
     no_less : (x : ℕ) → x ≡ x - 0
     no_less x = omega arith

@@ -133,6 +133,7 @@ bypassed n range head contexts r now after below h same is moved =
 pub peeked : (n range head : ℕ) (contexts : List ℕ) (r now : Reading) → r.offset < range → n ≤ length (left r)
     → IsSame r now → head ≡ offset_after n now → (after : Engine) × (fl_read n (engine range contexts r) ≡ Some (head / range, after))
 peeked n range head contexts r now below h same is =
-    let there : head ≡ offset_after n r = is ∙ ap (offset_after n) same in
-    (engine range contexts (stepped n (head / range * range) 0 r),
-      bypassed_there n range 0 contexts r below h ∙ ap (λ k. Some (k / range, engine range contexts (stepped n (k / range * range) 0 r))) (sym there))
+    let there : head ≡ offset_after n r = is ∙ ap (offset_after n) same in (
+      engine range contexts (stepped n (head / range * range) 0 r),
+      bypassed_there n range 0 contexts r below h ∙ ap (λ k. Some (k / range, engine range contexts (stepped n (k / range * range) 0 r))) (sym there),
+    )

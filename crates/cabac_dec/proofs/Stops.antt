@@ -55,7 +55,7 @@ from_stop bytes at k b some within few is =
     let next : at - 1 + 1 ≡ at = omega arith in
     ap (λ n. drop n (bits bytes)) place ∙ sym (drop-drop (7 - k) (8 * (at - 1)) (bits bytes))
     ∙ ap (drop (7 - k)) (drop-bits bytes (at - 1) (omega arith)
-      ∙ ap bits (drop_more bytes (at - 1) 0 (omega arith) ∙ ap (λ x. x ∷ drop (at - 1 + 1) bytes) (sym is) ∙ ap (λ n. b ∷ drop n bytes) next))
+    ∙ ap bits (drop_more bytes (at - 1) 0 (omega arith) ∙ ap (λ x. x ∷ drop (at - 1 + 1) bytes) (sym is) ∙ ap (λ n. b ∷ drop n bytes) next))
     ∙ drop-append-le (7 - k) (u 8 b) (bits (drop at bytes)) (omega (arith, length-u 8 b))
     ∙ ap (λ l. l ++ bits (drop at bytes)) (drop-u (7 - k) (suc k) 8 b (omega arith))
 
@@ -84,6 +84,6 @@ aligned_at bytes next value ahead b w some is =
     let whole : length (bits (drop at bytes)) % 8 ≡ 0 = length-bits-mod (drop at bytes) in
     ap (λ n. read_alignment (last_of false (take n (bits bytes)) ∷ drop n (bits bytes))) suc_before
     ∙ ap read_alignment (last_step (bits bytes) before false (omega (arith, length-bits bytes))
-      ∙ ap (λ n. drop n (bits bytes)) there ∙ from_stop bytes at k b (omega arith) (omega arith) (omega arith) is)
+    ∙ ap (λ n. drop n (bits bytes)) there ∙ from_stop bytes at k b (omega arith) (omega arith) (omega arith) is)
     ∙ stop_by (b / 2 ^ k % 2 == 1) (u k b) (bits (drop at bytes)) k (length-u k b) (omega arith) whole
     ∙ ap (λ t. if t then Some (bits (drop at bytes)) else None) (sym (tested_is k b (omega arith) byte))

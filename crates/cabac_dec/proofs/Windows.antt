@@ -66,7 +66,7 @@ moved c d e word offset less l long is enough =
       least = omega arith;
       below = let f : (h - less + 1) * 2 ^ (d + e) ≡ (h - less) * 2 ^ (d + e) + 2 ^ (d + e) = omega arith in omega arith;
       moved = less_now ∙ ap (λ (n : ℕ). (h - less) * n + r * q) w ∙ sym (spread (h - less) p q r)
-      ∙ ap (λ (n : ℕ). n * q) (ap (λ (n : ℕ). (h - less) * 2 ^ n + r) (sym many) ∙ sym (in_front (h - less) 0 rest) ∙ ap (λ n. value_after n rest) (add_zero (h - less)));
+          ∙ ap (λ (n : ℕ). n * q) (ap (λ (n : ℕ). (h - less) * 2 ^ n + r) (sym many) ∙ sym (in_front (h - less) 0 rest) ∙ ap (λ n. value_after n rest) (add_zero (h - less)));
     }
   where
     add_zero : (n : ℕ) → n + 0 ≡ n
@@ -231,7 +231,7 @@ refilled bytes next value ahead some word w fits few is word_is =
     sum ∙ ap (λ n. n * 2 ^ e) (sym all)
     ∙ ap (λ (n : ℕ). value_after (value / 2 ^ 54) (take (ahead + 8 * some) l) * 2 ^ n) (let s : e ≡ 54 - (ahead + 8 * some) = omega arith in s) in
     let room : value + word * 2 ^ e < 2 ^ 64 = room_for value x word (2 ^ (8 * some)) (2 ^ e) (2 ^ (54 - ahead)) (2 ^ (10 + ahead)) fits (w.holds) power below (pow_pos e) (pow_pos (54 - ahead))
-      (sym (pow-add 2 (10 + ahead) (54 - ahead)) ∙ ap (λ (n : ℕ). 2 ^ n) (let s : 10 + ahead + (54 - ahead) ≡ 64 = omega arith in s)) in
+    (sym (pow-add 2 (10 + ahead) (54 - ahead)) ∙ ap (λ (n : ℕ). 2 ^ n) (let s : 10 + ahead + (54 - ahead) ≡ 64 = omega arith in s)) in
     let place : 8 * (next + some) - (ahead + 8 * some) ≡ 8 * next - ahead = omega arith in
     let enough : ahead + 8 * some ≤ length l = omega (arith, length_left bytes (8 * next - ahead)) in
     let offset : (value + word * 2 ^ e) / 2 ^ 54 ≡ value / 2 ^ 54 =

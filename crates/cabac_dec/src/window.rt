@@ -91,7 +91,10 @@ impl<'a> Window<'a> {
         requires least { less ≤ offset_after count self.old }
         requires most { offset_after count self.old < less + 1024 }
         ensures { self.new ≡ record self.old {
-            place = self.old.place + count; offset = offset_after count self.old - less; ahead = self.old.ahead - count } }
+          place = self.old.place + count;
+          offset = offset_after count self.old - less;
+          ahead = self.old.ahead - count;
+        } }
     {
         self.value = (self.value - ((less as u64) << (54 - count))) << count;
         self.ahead -= count;

@@ -11,7 +11,7 @@ returns-in_err-renormalise-clause-value c =
     let below = c.is_below.ensures.0 c.if-is_below.true in
     rw (c.from_residual.ensures, ← c.self.view_is)
     (likely c.args.n c.get-state.result c.lps-small.result i.range i.contexts c.step.new.self i.window c.get-state.ensures.value c.lps-small.ensures.value below c.step.ensures
-      ∙ with_none _ _ c.in_err-renormalise.ensures.value)
+    ∙ with_none _ _ c.in_err-renormalise.ensures.value)
 
 pub returns-then-is_below-clause-value : goal.returns-then-is_below-clause-value
 returns-then-is_below-clause-value c =
@@ -19,7 +19,7 @@ returns-then-is_below-clause-value c =
     let below = c.is_below.ensures.0 c.if-is_below.true in
     rw (← c.self.view_is)
     (likely c.args.n c.get-state.result c.lps-small.result i.range i.contexts c.step.new.self i.window c.get-state.ensures.value c.lps-small.ensures.value below c.step.ensures
-      ∙ with_some _ _ _ c.in_ok-renormalise.ensures.value)
+    ∙ with_some _ _ _ c.in_ok-renormalise.ensures.value)
 
 pub advance-requires-clause-least : goal.advance-requires-clause-least
 unfolding value_after
@@ -51,8 +51,8 @@ returns-in_err-renormalise-2-clause-value c =
     let enough = not_below c.is_below.result _ _ c.if-is_below.false c.is_below.ensures.1 in
     rw (c.from_residual-in_err-renormalise-2.ensures, ← c.self.view_is)
     (unlikely c.args.n c.get-state.result c.lps-small.result i.range i.contexts c.step-2.new.self i.window c.advance.new.self c.get-state.ensures.value c.lps-small.ensures.value enough
-      c.step-2.ensures c.advance.ensures
-      ∙ with_none _ _ c.in_err-renormalise-2.ensures.value)
+    c.step-2.ensures c.advance.ensures
+    ∙ with_none _ _ c.in_err-renormalise-2.ensures.value)
 
 pub returns-clause-value : goal.returns-clause-value
 returns-clause-value c =
@@ -60,5 +60,5 @@ returns-clause-value c =
     let enough = not_below c.is_below.result _ _ c.if-is_below.false c.is_below.ensures.1 in
     rw (← c.self.view_is)
     (unlikely c.args.n c.get-state.result c.lps-small.result i.range i.contexts c.step-2.new.self i.window c.advance.new.self c.get-state.ensures.value c.lps-small.ensures.value enough
-      c.step-2.ensures c.advance.ensures
-      ∙ with_some _ _ _ c.in_ok-renormalise-2.ensures.value)
+    c.step-2.ensures c.advance.ensures
+    ∙ with_some _ _ _ c.in_ok-renormalise-2.ensures.value)

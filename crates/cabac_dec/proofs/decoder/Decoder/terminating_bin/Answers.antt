@@ -9,14 +9,14 @@ returns-in_err-renormalise-clause-value c =
     let i = c.self.inside in
     rw (c.from_residual.ensures, ← c.self.view_is)
     (goes_on i.range i.contexts i.window (c.is_below.ensures.0 c.if-is_below.true)
-      ∙ with_none _ _ (rw (← c.self.view_is) at c.in_err-renormalise.ensures.value))
+    ∙ with_none _ _ (rw (← c.self.view_is) at c.in_err-renormalise.ensures.value))
 
 pub returns-then-is_below-clause-value : goal.returns-then-is_below-clause-value
 returns-then-is_below-clause-value c =
     let i = c.self.inside in
     rw (← c.self.view_is)
     (goes_on i.range i.contexts i.window (c.is_below.ensures.0 c.if-is_below.true)
-      ∙ with_some _ _ _ (rw (← c.self.view_is) at c.in_ok-renormalise.ensures.value))
+    ∙ with_some _ _ _ (rw (← c.self.view_is) at c.in_ok-renormalise.ensures.value))
 
 pub returns-clause-value : goal.returns-clause-value
 returns-clause-value c =

@@ -24,7 +24,8 @@ returns c =
     let few = (rw take_rest at c.if-rest-out.false) in
     let out : c.copy_from_slice.new.self ≡ take n (drop at r.bytes) = (rw take_rest at c.copy_from_slice.ensures.after) ∙ ap (λ (l : List ℕ). take n (drop at l)) b in
     let is : c.at.result ≡ record { bytes = r.bytes; place = 8 * (at + n); offset = 0; ahead = 0 } =
-    c.at.ensures ∙ ap (λ (l : List ℕ). record { bytes = l; place = 8 * (at + n); offset = 0; ahead = 0 }) b in
-    (ap (λ (x : Reading). x.offset) is,
+    c.at.ensures ∙ ap (λ (l : List ℕ). record { bytes = l; place = 8 * (at + n); offset = 0; ahead = 0 }) b in (
+      ap (λ (x : Reading). x.offset) is,
       enough_left n at r c.at.result c.in_ok-at.ensures (subst AreBytes b c.self.invariant.are_bytes) (omega (arith, few, length-drop at i.bytes.now, ap length b)) is
-      ∙ ap (λ (l : List ℕ). Some (l, left c.at.result)) (sym out))
+          ∙ ap (λ (l : List ℕ). Some (l, left c.at.result)) (sym out),
+    )
