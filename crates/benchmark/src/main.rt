@@ -1,9 +1,10 @@
-//! Measures the crates. With the name of a group, `units`, `planes`, `scripts`, `coder` or `blocks`, it says how long each of its works takes at best; with
+//! Measures the crates. With the name of a group, `units`, `planes`, `scripts`, `coder`, `decoder` or `blocks`, it says how long each of its works takes at best; with
 //! no word it does each work once, with no clock, and says what was done.
 #![tactic(auto)]
 
 mod blocks;
 mod coder;
+mod decoder;
 mod measure;
 mod noise;
 mod planes;
@@ -30,6 +31,7 @@ fn run_all<R: Clock + Print>(rt: &R, alloc: Global) -> Result<(), Trouble> {
     planes::run(rt, alloc, Mode::Once)?;
     scripts::run(rt, alloc, Mode::Once)?;
     coder::run(rt, alloc, Mode::Once)?;
+    decoder::run(rt, alloc, Mode::Once)?;
     blocks::run(rt, alloc, Mode::Once)
 }
 
@@ -39,6 +41,7 @@ fn run_group<R: Clock + Print>(rt: &R, alloc: Global, word: &str) -> Result<(), 
         "planes" => planes::run(rt, alloc, Mode::Timed),
         "scripts" => scripts::run(rt, alloc, Mode::Timed),
         "coder" => coder::run(rt, alloc, Mode::Timed),
+        "decoder" => decoder::run(rt, alloc, Mode::Timed),
         "blocks" => blocks::run(rt, alloc, Mode::Timed),
         _ => Err(Trouble::NoSuchGroup),
     }
