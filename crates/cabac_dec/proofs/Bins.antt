@@ -1,5 +1,5 @@
 -- One bin, samples and ends.
-use Rattle.std.proofs.Common.{◌≡◌, refl, sym, ◌∙◌, ap, subst, ℕ, zero, suc, ◌+◌, ◌-◌, ◌*◌, ◌/◌, ◌%◌, ◌^◌, ◌<◌, ◌≤◌, Bool, true, false, not, List, [], ◌∷◌, ◌++◌, length, take, drop, get_or, Some, None, Option, bit_and, nat_eq, le-leb, arith}
+use Rattle.std.proofs.Common.{◌≡◌, refl, sym, ◌∙◌, ap, subst, ℕ, zero, suc, ◌+◌, ◌-◌, ◌*◌, ◌/◌, ◌%◌, ◌^◌, ◌<◌, ◌≤◌, Bool, true, false, not, List, [], ◌∷◌, length, take, drop, get_or, Some, None, Option, bit_and, nat_eq, le-leb, arith}
 use Rattle.std.proofs.lemmas.Bool.{cond-true, cond-false, lt-leb}
 use Rattle.std.proofs.lemmas.List.{length-drop, drop-drop, drop_all}
 use Rattle.std.proofs.lemmas.Nat.{and_mask}
@@ -12,7 +12,7 @@ use Rattle.h265_model.proofs.BitLaws.{read_u-u}
 use Rattle.cabac_dec.specs.State.{Reading, left, last_read, engine, offset_after, IsDecoder, Aligns, sample_bytes}
 use Rattle.cabac_dec.proofs.Parts.{drop-bits, bytes_left}
 use Rattle.cabac_dec.proofs.Steps.{IsSame, IsMoved, moved_on, now_below}
-use Rattle.cabac_dec.proofs.Engines.{stepped, bypass_none, bypass_zero, bypass_one}
+use Rattle.cabac_dec.proofs.Engines.{bypass_none, bypass_zero, bypass_one}
 
 -- ---- under a context
 

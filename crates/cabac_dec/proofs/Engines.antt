@@ -1,15 +1,14 @@
 -- What an engine reads, many bits at once.
-use Rattle.std.proofs.Common.{◌≡◌, refl, sym, ◌∙◌, ap, subst, ℕ, zero, suc, ◌+◌, ◌-◌, ◌*◌, ◌/◌, ◌%◌, ◌^◌, ◌<◌, ◌≤◌, Bool, true, false, not, List, [], ◌∷◌, ◌++◌, length, take, drop, get_or, Some, None, Option, le-leb, le-ltb, pow-suc, mod-lt, arith}
+use Rattle.std.proofs.Common.{◌≡◌, refl, sym, ◌∙◌, ap, ℕ, zero, suc, ◌+◌, ◌-◌, ◌*◌, ◌/◌, ◌%◌, ◌^◌, ◌<◌, ◌≤◌, Bool, true, false, List, [], ◌∷◌, ◌++◌, length, take, drop, Some, None, Option, le-leb, le-ltb, pow-suc, mod-lt, arith}
 use Rattle.std.proofs.lemmas.Bool.{cond-true, cond-false, lt-leb, leb-true, leb-false, lt-ltb}
 use Rattle.std.proofs.lemmas.List.{drop-drop, length-take-le}
-use Rattle.std.proofs.lemmas.Nat.{pow_pos, div-mul-add, div-add-mod'}
+use Rattle.std.proofs.lemmas.Nat.{div-mul-add, div-add-mod'}
 use Rattle.std.proofs.Math.Seq.{take-add}
 use Rattle.std.proofs.Math.Nat.{div-eq_of_lt}
 use Rattle.std.specs.Prelude.{nat_le, nat_lt, if◌then◌else◌}
 use Rattle.h265_model.specs.Bits.{digit, value_after, bits, ◌>>=◌ as and_then}
-use Rattle.h265_model.specs.Binarise.{fl_from, fl_read}
-use Rattle.h265_model.specs.Contexts.{lps_range, mps, step}
-use Rattle.h265_model.specs.Engine.{Engine, take_bit, shift_in, doublings, renormalised, with_bin, context_read, bypass_read, terminate_read, start}
+use Rattle.h265_model.specs.Binarise.{fl_from}
+use Rattle.h265_model.specs.Engine.{Engine, shift_in, doublings, renormalised, bypass_read, start}
 use Rattle.cabac_dec.specs.State.{Reading, left, last_of, last_read, engine, offset_after}
 use Rattle.cabac_dec.proofs.Parts.{in_front}
 

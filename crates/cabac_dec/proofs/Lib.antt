@@ -5,3 +5,4 @@ pub mod Stops
 pub mod Engines
 pub mod Steps
 pub mod Bins
+pub mod Fronts

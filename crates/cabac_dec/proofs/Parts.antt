@@ -1,7 +1,7 @@
 -- Bits of bytes in parts, and the numbers that they spell.
-use Rattle.std.proofs.Common.{◌≡◌, refl, sym, ◌∙◌, ap, ℕ, zero, suc, ◌+◌, ◌-◌, ◌*◌, ◌/◌, ◌%◌, ◌^◌, ◌<◌, ◌≤◌, Bool, true, false, List, [], ◌∷◌, ◌++◌, length, take, drop, get_or, append-nil, pow-suc, take-append-drop, length-append, arith}
+use Rattle.std.proofs.Common.{◌≡◌, refl, sym, ◌∙◌, ap, ℕ, zero, suc, ◌+◌, ◌-◌, ◌*◌, ◌^◌, ◌<◌, ◌≤◌, Bool, List, [], ◌∷◌, ◌++◌, length, take, drop, get_or, append-nil, pow-suc, take-append-drop, arith}
 use Rattle.std.proofs.lemmas.List.{take_at, drop_at, length-take-le, length-drop}
-use Rattle.h265_model.specs.Bits.{u, digit, value_after, value, bits}
+use Rattle.h265_model.specs.Bits.{u, digit, value_after, bits}
 use Rattle.h265_model.specs.Plain.{AreBytes}
 use Rattle.h265_model.proofs.ByteLaws.{bits-append, length-bits}
 

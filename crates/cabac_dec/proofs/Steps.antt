@@ -1,14 +1,15 @@
 -- What the steps of a decoder leave.
-use Rattle.std.proofs.Common.{◌≡◌, refl, sym, ◌∙◌, ap, subst, ℕ, zero, suc, ◌+◌, ◌-◌, ◌*◌, ◌/◌, ◌%◌, ◌^◌, ◌<◌, ◌≤◌, Bool, true, false, not, List, [], ◌∷◌, ◌++◌, length, take, drop, Some, None, Option, leb-true, leb-false, le-leb, ltb-true, ltb-false, mod-eq_of_lt, arith}
+use Rattle.std.proofs.Common.{◌≡◌, refl, sym, ◌∙◌, ap, subst, ℕ, ◌+◌, ◌-◌, ◌*◌, ◌/◌, ◌%◌, ◌^◌, ◌<◌, ◌≤◌, Bool, true, false, List, length, take, drop, Some, None, Option, leb-true, leb-false, le-leb, ltb-true, ltb-false, mod-eq_of_lt, mod-lt, arith}
 use Rattle.std.proofs.lemmas.List.{length-take-le}
 use Rattle.std.proofs.lemmas.Bool.{cond-true}
-use Rattle.std.proofs.lemmas.Nat.{mul-le, pow_pos}
+use Rattle.std.proofs.lemmas.Nat.{mul-le, div-add-mod'}
+use Rattle.cabac_dec.proofs.Windows.{wider}
 use Rattle.std.specs.Prelude.{nat_le, nat_lt}
 use Rattle.std.specs.Int.Count.{count_leading_zeros}
-use Rattle.h265_model.specs.Bits.{value_after, digits_up_to}
+use Rattle.h265_model.specs.Bits.{digits_up_to}
 use Rattle.h265_model.specs.Engine.{Engine, renormalised, doublings, shift_in}
 use Rattle.h265_model.proofs.ByteLaws.{value_after-split}
-use Rattle.h265_model.proofs.Doublings.{Doubled, doubled}
+use Rattle.h265_model.proofs.Doublings.{doubled}
 use Rattle.cabac_dec.specs.State.{Reading, left, last_of, last_read, engine, offset_after, IsDecoder}
 use Rattle.h265_model.specs.Binarise.{fl_read}
 use Rattle.cabac_dec.proofs.Engines.{eng, stepped, renewed, not_renewed, engine_after, fl_there, fl_short}
@@ -137,3 +138,66 @@ peeked n range head contexts r now below h same is =
       engine range contexts (stepped n (head / range * range) 0 r),
       bypassed_there n range 0 contexts r below h ∙ ap (λ k. Some (k / range, engine range contexts (stepped n (k / range * range) 0 r))) (sym there),
     )
+
+-- ---- bypass bins that are known
+
+clash_none : {A : Type 0} (o : Option A) (x : A) → o ≡ None → o ≡ Some x → ⊥
+clash_none o x h k = let f : None ≡ Some x = sym h ∙ k in cc
+
+same_some : {A : Type 0} (x y : A) → Some x ≡ Some y → x ≡ y
+same_some x y h = cc
+
+pub known_there : (n range value : ℕ) (contexts : List ℕ) (r : Reading) (after : Engine) → r.offset < range
+    → fl_read n (engine range contexts r) ≡ Some (value, after) → n ≤ length (left r)
+known_there n range value contexts r after below known = go (nat_le n (length (left r))) refl
+  where
+    go : (t : Bool) → nat_le n (length (left r)) ≡ t → n ≤ length (left r)
+    go true e = leb-true _ _ e
+    go false e = absurd (clash_none _ (value, after) (bypassed_short n range contexts r below (leb-false _ _ e)) known)
+
+pub known_value : (n range value : ℕ) (contexts : List ℕ) (r : Reading) (after : Engine) → r.offset < range
+    → fl_read n (engine range contexts r) ≡ Some (value, after) → value ≡ offset_after n r / range
+known_value n range value contexts r after below known =
+    let h = known_there n range value contexts r after below known in
+    ap (λ (p : ℕ × Engine). p.0) (same_some _ _ (sym known ∙ bypassed_there n range 0 contexts r below h))
+
+pub record Skipped (n range value : ℕ) (contexts : List ℕ) (r now : Reading) : Type 0 where
+  pub there : n ≤ length (left r)
+  pub head : value ≡ offset_after n now / range
+  pub fits : value * range < 2 ^ 32
+  pub least : value * range ≤ offset_after n now
+  pub most : offset_after n now < value * range + range
+
+pub skipped : (n range value : ℕ) (contexts : List ℕ) (r now : Reading) (after : Engine) → r.offset < range → range ≤ 510 → n ≤ 20 → IsSame r now
+    → fl_read n (engine range contexts r) ≡ Some (value, after) → Skipped n range value contexts r now
+skipped n range value contexts r now after below most few same known =
+    let h = known_there n range value contexts r after below known in
+    let head : value ≡ offset_after n now / range = known_value n range value contexts r after below known ∙ ap (λ k. k / range) (sym (ap (offset_after n) same)) in
+    let whole : value * range + offset_after n now % range ≡ offset_after n now = ap (λ k. k * range + offset_after n now % range) head ∙ div-add-mod' (offset_after n now) range in
+    let over : offset_after n now % range < range = mod-lt (offset_after n now) (omega arith) in
+    let room = now_below n range r now below h same in
+    let power : 2 ^ n ≤ 2 ^ 20 = wider n 20 few in
+    let all : range * 2 ^ n ≤ 510 * 2 ^ 20 = mul-le range (2 ^ n) 510 (2 ^ 20) most power in
+    record { there = h; head = head; fits = omega arith; least = omega arith; most = omega arith }
+
+pub skipped_to : (n range value : ℕ) (contexts : List ℕ) (r now after : Reading) → Skipped n range value contexts r now → r.offset < range → IsSame r now
+    → IsMoved n (value * range) now after → fl_read n (engine range contexts r) ≡ Some (value, engine range contexts after)
+skipped_to n range value contexts r now after s below same moved =
+    let e : value ≡ offset_after n now / range = s.head in
+    bypassed n range (offset_after n now) contexts r now after below s.there same refl (rw (sym e) moved)
+    ∙ ap (λ k. Some (k, engine range contexts after)) (sym e)
+
+pub after_skip : (n range value : ℕ) (contexts : List ℕ) (r now after : Reading) → Skipped n range value contexts r now → IsMoved n (value * range) now after → after.offset < range
+after_skip n range value contexts r now after s moved =
+    let most = s.most in
+    let least = s.least in
+    rw moved (omega arith)
+
+pub skip_keeps : (n range value : ℕ) (contexts : List ℕ) (r now after : Reading) → Skipped n range value contexts r now → IsDecoder range r → r.offset < range
+    → IsSame r now → IsMoved n (value * range) now after → IsDecoder range after
+skip_keeps n range value contexts r now after s d below same moved =
+    let inside = after_skip n range value contexts r now after s moved in
+    let most = d.most in
+    let begun = d.begun in
+    let place : after.place ≡ r.place + n = ap (λ (x : Reading). x.place) moved ∙ ap (λ (x : Reading). x.place + n) same in
+    record { most = d.most; least = λ _. d.least below; below = omega arith; begun = omega arith }

@@ -1,15 +1,15 @@
 -- The window: what stands in its word.
-use Rattle.std.proofs.Common.{◌≡◌, refl, sym, ◌∙◌, ap, subst, ℕ, zero, suc, ◌+◌, ◌-◌, ◌*◌, ◌/◌, ◌%◌, ◌^◌, ◌<◌, ◌≤◌, Bool, true, false, List, [], ◌∷◌, ◌++◌, length, take, drop, get_or, le-leb, arith}
+use Rattle.std.proofs.Common.{◌≡◌, refl, sym, ◌∙◌, ap, subst, ℕ, ◌+◌, ◌-◌, ◌*◌, ◌/◌, ◌%◌, ◌^◌, ◌<◌, ◌≤◌, Bool, true, List, length, take, drop, le-leb, arith}
 use Rattle.std.proofs.lemmas.List.{length-take-le, length-drop, drop-drop, take_min}
-use Rattle.std.proofs.lemmas.Nat.{pow_pos, pow-add, shr_high, mul-lt, mul-le, div_below}
+use Rattle.std.proofs.lemmas.Nat.{pow_pos, pow-add, shr_high, mul-le, div_below}
 use Rattle.std.proofs.Math.Seq.{take-add}
 use Rattle.std.proofs.Math.Nat.{mod-eq_of_lt, pow-le-pow_right, lt_of_mul-lt-mul_right}
 use Rattle.std.proofs.lemmas.Bool.Decides.{nat_tests}
 use Rattle.std.specs.Prelude.{nat_le, min}
-use Rattle.h265_model.specs.Bits.{u, digit, value_after, value, bits}
+use Rattle.h265_model.specs.Bits.{value_after, value, bits}
 use Rattle.h265_model.specs.Plain.{AreBytes}
-use Rattle.h265_model.proofs.ByteLaws.{Split, value_after-split, value_below, bits-append, length-bits}
-use Rattle.cabac_dec.specs.State.{Reading, left, offset_after, IsWindow, reading}
+use Rattle.h265_model.proofs.ByteLaws.{Split, value_after-split, value_below, length-bits}
+use Rattle.cabac_dec.specs.State.{offset_after, IsWindow, reading}
 use Rattle.cabac_dec.proofs.Parts.{value_after-append, in_front, drop-bits, take-bits, length_left}
 
 -- ---- numbers
@@ -172,7 +172,7 @@ head_at bytes next value ahead count w ready =
     let few = w.few in
     ap (λ (n : ℕ). value / 2 ^ n) (let s : 54 - count ≡ ahead - count + (54 - ahead) = omega arith in s) ∙ m.head
 
-wider : (m n : ℕ) → m ≤ n → 2 ^ m ≤ 2 ^ n
+pub wider : (m n : ℕ) → m ≤ n → 2 ^ m ≤ 2 ^ n
 wider m n h = pow-le-pow_right (omega arith) h
 
 pub head_fits : (value count : ℕ) → value < 2 ^ 64 → count ≤ 20 → value / 2 ^ (54 - count) < 2 ^ 32

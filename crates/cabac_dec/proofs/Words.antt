@@ -1,11 +1,10 @@
 -- Bytes as one number.
-use Rattle.std.proofs.Common.{◌≡◌, refl, sym, ◌∙◌, ap, subst, ℕ, zero, suc, ◌+◌, ◌-◌, ◌*◌, ◌/◌, ◌%◌, ◌^◌, ◌<◌, ◌≤◌, Bool, true, false, List, [], ◌∷◌, ◌++◌, length, take, drop, get_or, bit_or, arith}
+use Rattle.std.proofs.Common.{◌≡◌, refl, sym, ◌∙◌, ap, subst, ℕ, ◌+◌, ◌*◌, ◌%◌, ◌^◌, ◌<◌, ◌≤◌, List, [], ◌∷◌, ◌++◌, length, take, get_or, bit_or, arith}
 use Rattle.std.proofs.lemmas.List.{length-take-le, take_more, take_all}
 use Rattle.std.proofs.lemmas.Nat.{shl_whole, or_shifted}
-use Rattle.std.specs.Int.{w32, from_be_bytes}
-use Rattle.h265_model.specs.Bits.{u, digit, value_after, value, bits}
+use Rattle.h265_model.specs.Bits.{u, value_after, value, bits}
 use Rattle.h265_model.proofs.BitLaws.{value-u}
-use Rattle.h265_model.proofs.ByteLaws.{value_below, bits-append, length-bits}
+use Rattle.h265_model.proofs.ByteLaws.{value_below, length-bits}
 use Rattle.cabac_dec.proofs.Parts.{value_after-append, bits-push}
 
 same_byte : (a b : ℕ) → b < 256 → a * 256 + b % 256 ≡ a * 256 + b

@@ -1,5 +1,5 @@
 //! The decoder.
-ghost use Rattle.std.specs.Prelude.{◌≡◌, ◌*◌, ◌<◌, ◌≤◌, ◌↔◌, length, IfSome, IsSome, IsTrue};
+ghost use Rattle.std.specs.Prelude.{◌≡◌, ◌-◌, ◌*◌, ◌/◌, ◌^◌, ◌<◌, ◌≤◌, ◌↔◌, length, IfSome, IsSome, IsTrue};
 ghost use Rattle.h265_model.specs.declared.Place.TheVariants as places;
 ghost use Rattle.h265_model.specs.Bits.{bits};
 ghost use Rattle.h265_model.specs.Binarise.{fl_read};
@@ -186,6 +186,24 @@ impl<'a> Decoder<'a> {
         Some(self.window.head(count) / self.range)
     }
 
+    /// Reads the first `count` of `peeked` bypass bins whose digits `peek` told, and gives their own: nothing is divided.
+    #[inline(always)]
+    pub fn skip(&mut self, count: u32, peeked: u32, digits: u32) -> u32
+        requires open { IsOpen self.old }
+        requires few { peeked ≤ 20 }
+        requires first { count ≤ peeked }
+        requires known { Shows (Some digits) (fl_read peeked self.old) }
+        ensures value { fl_read count self.old ≡ Some (result, self.new) }
+        ensures digits { result ≡ digits / 2 ^ (peeked - count) }
+        ensures open { IsOpen self.new }
+    {
+        let _there = self.window.has(count);
+        let value = digits >> (peeked - count);
+        let less = value * self.range;
+        self.window.advance(count, less);
+        value
+    }
+
     /// Fills `out` with samples after a terminating bin 1, and starts anew. It answers nothing exactly where the last bit read isn't 1,
     /// the bits to the byte aren't 0, or the samples or a start aren't there (7.3.8.7).
     pub fn pcm(&mut self, out: &mut [u8]) -> Option<()>
@@ -201,7 +219,8 @@ impl<'a> Decoder<'a> {
     /// After a terminating bin 1, something exactly where the last bit read is 1, zeros follow to the byte and no byte is left.
     pub fn end(&mut self) -> Option<()>
         requires { IsEnded self.old }
-        ensures { IsTrue (is_done self.old) ↔ IsSome result }
+        ensures done { IsTrue (is_done self.old) ↔ IsSome result }
+        ensures same { self.new ≡ self.old }
     {
         let at = self.window.aligned()?;
         if at < self.window.len() {

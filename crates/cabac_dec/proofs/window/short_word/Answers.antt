@@ -1,6 +1,5 @@
-use Rattle.std.proofs.Common.{refl, ◌∙◌, ◌≡◌, ap, take, sym, arith}
-use Rattle.std.proofs.lemmas.List.{take_all}
-use Rattle.h265_model.specs.Bits.{value_after, value, bits}
+use Rattle.std.proofs.Common.{refl, arith}
+use Rattle.h265_model.specs.Bits.{value_after}
 use Rattle.cabac_dec.proofs.Words.{word_more, word_whole}
 use Rattle.cabac_dec.proofs.window.short_word.Goals as goal
 

@@ -1,6 +1,6 @@
-use Rattle.std.proofs.Common.{◌≡◌, ◌∙◌, ap, sym, ◌-◌, ◌<◌, ◌≤◌, Some, arith}
+use Rattle.std.proofs.Common.{arith}
 use Rattle.cabac_dec.proofs.Steps.{enough, missing}
-use Rattle.cabac_dec.proofs.Bins.{Halving, no_bit, bit_below, zero_bin, one_bin}
+use Rattle.cabac_dec.proofs.Bins.{no_bit, bit_below, zero_bin, one_bin}
 use Rattle.cabac_dec.proofs.decoder.Decoder.bypass_bin.Goals as goal
 
 pub returns-then-not-has-clause-value : goal.returns-then-not-has-clause-value

@@ -1,6 +1,5 @@
-use Rattle.std.proofs.Common.{◌≡◌, ◌∙◌, ap, sym, ◌-◌, ◌<◌, ◌≤◌, Some, arith}
+use Rattle.std.proofs.Common.{◌∙◌, ◌-◌, arith}
 use Rattle.h265_model.specs.Bits.{value_after}
-use Rattle.cabac_dec.specs.State.{Reading, left, engine, offset_after}
 use Rattle.cabac_dec.proofs.Steps.{not_below}
 use Rattle.cabac_dec.proofs.Bins.{likely, unlikely, lessened_only, with_none, with_some}
 use Rattle.cabac_dec.proofs.decoder.Decoder.context_bin.Goals as goal

@@ -1,4 +1,4 @@
-use Rattle.std.proofs.Common.{◌≡◌, ◌∙◌, ap, sym, length, Some, arith}
+use Rattle.std.proofs.Common.{length}
 use Rattle.cabac_dec.proofs.Bins.{no_samples, no_start, all_read}
 use Rattle.cabac_dec.proofs.decoder.Decoder.pcm.Goals as goal
 

@@ -1,5 +1,3 @@
-use Rattle.std.proofs.Common.{◌≡◌, ◌∙◌, ap, sym, ◌-◌, ◌<◌, ◌≤◌, Some, arith}
-use Rattle.cabac_dec.specs.State.{Reading, left, engine}
 use Rattle.cabac_dec.proofs.Steps.{enough, missing, bypassed_short, peeked}
 use Rattle.cabac_dec.proofs.decoder.Decoder.peek.Goals as goal
 

@@ -1,5 +1,4 @@
-use Rattle.std.proofs.Common.{◌≡◌, ◌∙◌, ap, sym, ◌<◌, ◌≤◌, arith}
-use Rattle.h265_model.specs.Engine.{Engine}
+use Rattle.std.proofs.Common.{arith}
 use Rattle.h265_model.proofs.Doublings.{doubled}
 use Rattle.cabac_dec.proofs.Steps.{enough, missing, renewal, renewal_room, no_renewal, wide_enough}
 use Rattle.cabac_dec.proofs.decoder.Decoder.renormalise.Goals as goal

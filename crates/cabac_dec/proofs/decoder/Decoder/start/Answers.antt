@@ -1,6 +1,5 @@
-use Rattle.std.proofs.Common.{◌≡◌, ◌∙◌, ap, sym, subst, ◌-◌, ◌<◌, ◌≤◌, Some, Option, arith}
-use Rattle.h265_model.specs.Engine.{Engine, start}
-use Rattle.cabac_dec.specs.State.{Reading, left, engine}
+use Rattle.std.proofs.Common.{◌∙◌, ap, ◌-◌, Some, arith}
+use Rattle.cabac_dec.specs.State.{Reading, engine}
 use Rattle.cabac_dec.proofs.Engines.{not_begun, refused_start, started}
 use Rattle.cabac_dec.proofs.Steps.{enough, missing, moved_on, not_below, first_below, first_offset}
 use Rattle.cabac_dec.proofs.decoder.Decoder.start.Goals as goal

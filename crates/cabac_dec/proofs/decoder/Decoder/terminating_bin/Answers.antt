@@ -1,5 +1,4 @@
-use Rattle.std.proofs.Common.{◌≡◌, ◌∙◌, ap, sym, ◌-◌, ◌<◌, ◌≤◌, Some, arith}
-use Rattle.cabac_dec.specs.State.{Reading, left, engine}
+use Rattle.std.proofs.Common.{◌∙◌}
 use Rattle.cabac_dec.proofs.Steps.{not_below}
 use Rattle.cabac_dec.proofs.Bins.{goes_on, ends, with_none, with_some}
 use Rattle.cabac_dec.proofs.decoder.Decoder.terminating_bin.Goals as goal

@@ -1,6 +1,5 @@
-use Rattle.std.proofs.Common.{◌≡◌, ◌∙◌, ap, subst, sym, ◌+◌, ◌-◌, ◌*◌, ◌<◌, ◌≤◌, arith}
-use Rattle.cabac_dec.specs.State.{Reading, left, offset_after, reading}
-use Rattle.cabac_dec.proofs.Windows.{Advanced, advanced}
+use Rattle.std.proofs.Common.{arith}
+use Rattle.cabac_dec.proofs.Windows.{advanced}
 use Rattle.cabac_dec.proofs.window.Window.advance.Goals as goal
 
 pub overflow_sub-self-2 : goal.overflow_sub-self-2

@@ -1,6 +1,5 @@
-use Rattle.std.proofs.Common.{◌≡◌, ◌∙◌, ◌-◌, ◌/◌, ◌<◌, ◌≤◌, Some, None, arith}
-use Rattle.std.proofs.lemmas.Bool.{cond-true, cond-false, eqb-true, ne_eqb, eq-eqb}
-use Rattle.cabac_dec.specs.State.{Reading, reading}
+use Rattle.std.proofs.Common.{◌∙◌, arith}
+use Rattle.std.proofs.lemmas.Bool.{cond-true, cond-false, ne_eqb, eq-eqb}
 use Rattle.cabac_dec.proofs.Stops.{aligned_at}
 use Rattle.cabac_dec.proofs.window.Window.aligned.Goals as goal
 

@@ -1,4 +1,3 @@
-use Rattle.std.proofs.Common.{◌≡◌, sym, ◌≤◌, arith}
 use Rattle.cabac_dec.proofs.Windows.{ready}
 use Rattle.cabac_dec.proofs.window.Window.has.Goals as goal
 

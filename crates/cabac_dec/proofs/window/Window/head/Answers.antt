@@ -1,5 +1,4 @@
-use Rattle.std.proofs.Common.{◌≡◌, ◌∙◌, ap, subst, sym, ◌+◌, ◌-◌, ◌*◌, ◌/◌, ◌<◌, ◌≤◌, arith}
-use Rattle.cabac_dec.specs.State.{Reading, left, offset_after, reading}
+use Rattle.std.proofs.Common.{arith}
 use Rattle.cabac_dec.proofs.Windows.{head_at, head_fits}
 use Rattle.cabac_dec.proofs.window.Window.head.Goals as goal
 

@@ -1,8 +1,8 @@
-use Rattle.std.proofs.Common.{◌≡◌, ◌∙◌, ap, sym, ℕ, ◌+◌, ◌-◌, ◌*◌, ◌<◌, ◌≤◌, length, arith}
+use Rattle.std.proofs.Common.{◌≡◌, ◌∙◌, ap, ◌-◌, length, arith}
 use Rattle.std.proofs.lemmas.List.{take_rest, length-drop}
 use Rattle.std.specs.Prelude.{min}
-use Rattle.cabac_dec.specs.State.{Reading, left, reading}
-use Rattle.cabac_dec.proofs.Windows.{Refilled, refilled, counted}
+use Rattle.cabac_dec.specs.State.{Reading}
+use Rattle.cabac_dec.proofs.Windows.{refilled, counted}
 use Rattle.cabac_dec.proofs.window.Window.refill.Goals as goal
 
 pub overflow_add-self : goal.overflow_add-self

@@ -1,8 +1,8 @@
-use Rattle.std.proofs.Common.{◌≡◌, ◌∙◌, ap, sym, subst, List, ℕ, ◌-◌, ◌*◌, ◌+◌, ◌<◌, ◌≤◌, length, take, drop, Some, arith}
+use Rattle.std.proofs.Common.{◌≡◌, ◌∙◌, ap, sym, subst, List, ℕ, ◌*◌, ◌+◌, length, take, drop, Some, arith}
 use Rattle.std.proofs.lemmas.List.{take_rest, length-drop}
 use Rattle.h265_model.specs.Plain.{AreBytes}
-use Rattle.cabac_dec.specs.State.{Reading, left, sample_bytes}
-use Rattle.cabac_dec.proofs.Bins.{unaligned, few_left, enough_left}
+use Rattle.cabac_dec.specs.State.{Reading, left}
+use Rattle.cabac_dec.proofs.Bins.{few_left, enough_left}
 use Rattle.cabac_dec.proofs.window.Window.samples.Goals as goal
 
 pub returns-then-rest-out : goal.returns-then-rest-out
