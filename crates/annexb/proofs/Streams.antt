@@ -3,7 +3,7 @@ use Rattle.std.proofs.Common.{◌≡◌, ℕ, zero, suc, ◌+◌, ◌-◌, ◌<�
 use Rattle.std.specs.Prelude.{◌&&◌, nat_lt, MatchOption}
 use Rattle.std.proofs.lemmas.Bool.Decides.{nat_tests}
 use Rattle.std.proofs.lemmas.List.{append-nil, length_push, length-take-le, length-drop}
-use Rattle.h265_model.specs.Script.{◌>>-◌}
+use Rattle.h265_model.specs.Bits.{◌>>-◌}
 use Rattle.h265_model.specs.NalUnits.{NalUnit, only_zeros, payload, nal_unit_of, next_start, units_within, units}
 use Rattle.annexb.specs.declared.error.UnitsError.{UnitsError}
 use Rattle.annexb.specs.declared.error.UnitsError.TheVariants.{BadUnit, NoMemory}

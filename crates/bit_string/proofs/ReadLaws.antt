@@ -4,7 +4,7 @@ use Rattle.std.specs.Prelude.{◌==◌, nat_lt, if◌then◌else◌}
 use Rattle.std.proofs.lemmas.Bool.Decides.{nat_tests}
 use Rattle.std.proofs.lemmas.Nat.{shl_whole, or_shifted}
 use Rattle.std.proofs.lemmas.List.{drop-drop, length-take-le, take_at, map_more, map-append}
-use Rattle.h265_model.specs.Script.{◌>>-◌}
+use Rattle.h265_model.specs.Bits.{◌>>-◌}
 use Rattle.h265_model.specs.Bits.{value, read_u, read_alignment, is_empty}
 use Rattle.h265_model.specs.Fields as model
 use Rattle.h265_model.specs.Fields.{read_element, or_number, read_field, read_fields, read_trailing}

@@ -2,7 +2,7 @@
 use Rattle.std.specs.Prelude.{◌≡◌, ◌<◌, ◌≤◌, ◌↔◌, ℕ, ◌+◌, ◌*◌, ◌%◌, ◌/◌, ◌^◌, Bool, true, false, List, ◌++◌, map, slice_index_or, Option, Some, None, IsTrue}
 use Rattle.h265_model.specs.declared.leaf.Kind.TheVariants.{Intra}
 use Rattle.h265_model.specs.declared.leaf.Leaf.{Leaf}
-use Rattle.h265_model.specs.declared.line.Rect.{Rect}
+use Rattle.h265_model.specs.declared.rect.Rect.{Rect}
 use Rattle.h265_model.specs.Plain.{Size, Picture, coded, leaf_with, ctu_x, ctu_y}
 use Rattle.h265_model.specs.Choice.{Plan, one_leaf, intra_cost}
 use Rattle.px_plane.specs.Planes.{picture_of}

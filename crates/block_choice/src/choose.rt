@@ -2,7 +2,7 @@
 ghost use Rattle.std.specs.Prelude.{◌≡◌, ℕ, ◌+◌, ◌%◌, ◌<◌, ◌≤◌, false, true, MatchOption, IfSome, Some, None};
 ghost use Rattle.h265_model.specs.Plain.{ctu_x, ctu_y};
 ghost use Rattle.h265_model.specs.Choice.{choice, plan};
-ghost use Rattle.h265_model.specs.Desk.{tile_count};
+ghost use Rattle.h265_model.specs.Tiles.{tile_count};
 ghost use Rattle.px_plane.specs.Planes.{picture_of};
 ghost use Rattle.block_choice.specs.Plans.{IsSameTree, TellsCopies, before};
 

@@ -1,6 +1,6 @@
 //! The coding units of small pictures, from an independent model of the recorder in Python.
 ghost use Rattle.std.specs.Prelude.{◌≡◌, ◌<◌, ◌≤◌, IfOk, IfSome};
-ghost use Rattle.h265_model.specs.Desk.{tile_count};
+ghost use Rattle.h265_model.specs.Tiles.{tile_count};
 
 use super::{Leaves, plan_ctu};
 use h265_model::{Kind, Leaf};

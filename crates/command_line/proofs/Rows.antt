@@ -2,7 +2,7 @@
 use Rattle.std.proofs.Common.{◌≡◌, ℕ, true, false, List, [], ◌∷◌, length, refl, arith}
 use Rattle.std.specs.Prelude.{Option, None, bytes_eq, codes}
 use Rattle.std.specs.Borrow.{Bor}
-use Rattle.h265_model.specs.Words.{Row, row_of, record_words, serial_words, demo_words, decode_words}
+use Rattle.recorder_model.specs.Words.{Row, row_of, record_words, serial_words, demo_words, decode_words}
 use Rattle.command_line.specs.Views.{texts}
 
 pub no_words : (all : List (Bor (List ℕ))) → length all ≡ 0 → None ≡ row_of (texts all)

@@ -1,7 +1,7 @@
 -- The words that the program was given, as the definitions see them.
 use Rattle.std.specs.Prelude.{ℕ, ◌≤◌, List, map, length}
 use Rattle.std.specs.Borrow.{Bor}
-use Rattle.h265_model.specs.Words as words
+use Rattle.recorder_model.specs.Words as words
 use Rattle.command_line.specs.declared.row.Settings.{Settings}
 use Rattle.command_line.specs.declared.row.Row.{Row}
 use Rattle.command_line.specs.declared.row.Row.TheVariants.{Record, Serial, Demo, Decode}

@@ -1,7 +1,7 @@
 //! The row of the table that words are in.
 ghost use Rattle.std.specs.Prelude.{◌≡◌, option_map};
 ghost use Rattle.std.specs.Option.{IfSome};
-ghost use Rattle.h265_model.specs.Words as table;
+ghost use Rattle.recorder_model.specs.Words as table;
 ghost use Rattle.command_line.specs.Views.{texts, settings_view, row_view, IsWithinLimits, RowIsWithinLimits};
 
 use crate::size::{number, size};

@@ -2,8 +2,8 @@
 ghost use Rattle.std.specs.Prelude.{◌≡◌, ◌≤◌, ◌==◌, [], ◌∷◌, None};
 ghost use Rattle.std.specs.Option.{IfSome, MatchOption};
 ghost use Rattle.std.specs.List.{slice_split};
-ghost use Rattle.h265_model.specs.Script.{number_up_to};
-ghost use Rattle.h265_model.specs.Words.{size_parts, size_word};
+ghost use Rattle.recorder_model.specs.Script.{number_up_to};
+ghost use Rattle.recorder_model.specs.Words.{size_parts, size_word};
 
 use paint_script::number_up_to;
 use px_plane::Size;

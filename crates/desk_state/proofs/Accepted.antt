@@ -1,11 +1,11 @@
 -- What a call makes of a desk's fields.
 use Rattle.std.proofs.Common.{◌≡◌, ℕ, ◌-◌, ◌^◌, ◌<◌, ◌≤◌, List, [], ◌∷◌, ◌++◌, length, sym, ap, subst, ◌∙◌, arith, vec_len, vec_capacity, length-append}
-use Rattle.h265_model.specs.declared.entry.Entry.{Entry}
-use Rattle.h265_model.specs.declared.entry.Entry.TheVariants as entry
-use Rattle.h265_model.specs.declared.line.Job.{Job}
-use Rattle.h265_model.specs.declared.line.Line.{Line}
-use Rattle.h265_model.specs.Raster.{accepted_line}
-use Rattle.h265_model.specs.Histories.{cuts, takes}
+use Rattle.recorder_model.specs.declared.entry.Entry.{Entry}
+use Rattle.recorder_model.specs.declared.entry.Entry.TheVariants as entry
+use Rattle.h265_model.specs.declared.job.Job.{Job}
+use Rattle.recorder_model.specs.declared.line.Line.{Line}
+use Rattle.recorder_model.specs.Painting.{accepted_line}
+use Rattle.recorder_model.specs.Histories.{cuts, takes}
 use Rattle.desk_surface.specs.Damage.{Painted}
 use Rattle.desk_state.specs.declared.replay.Replay.{Replay}
 use Rattle.desk_state.specs.declared.state.DeskState.TheInside.{Inside}

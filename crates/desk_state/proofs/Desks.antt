@@ -3,15 +3,15 @@ use Rattle.std.proofs.Common.{◌≡◌, ℕ, ◌+◌, ◌-◌, ◌<◌, ◌≤�
 use Rattle.std.specs.Prelude.{count_by}
 use Rattle.std.specs.List.{range_with_len}
 use Rattle.std.proofs.lemmas.List.FromFn.{length-map-range_with_len}
-use Rattle.h265_model.specs.declared.entry.Entry.{Entry}
-use Rattle.h265_model.specs.declared.entry.Entry.TheVariants as entry
-use Rattle.h265_model.specs.declared.line.Job.{Job}
-use Rattle.h265_model.specs.declared.line.Line.{Line}
-use Rattle.h265_model.specs.Script.{is_cut}
-use Rattle.h265_model.specs.Setting.{Setting}
-use Rattle.h265_model.specs.Raster.{raster, accepted_line, lines_of}
-use Rattle.h265_model.specs.Histories.{IsLawful, cuts, take_numbers, takes, indexes_of, script_length}
-use Rattle.h265_model.specs.Desk.{job_of}
+use Rattle.recorder_model.specs.declared.entry.Entry.{Entry}
+use Rattle.recorder_model.specs.declared.entry.Entry.TheVariants as entry
+use Rattle.h265_model.specs.declared.job.Job.{Job}
+use Rattle.recorder_model.specs.declared.line.Line.{Line}
+use Rattle.recorder_model.specs.Script.{is_cut}
+use Rattle.recorder_model.specs.Setting.{Setting}
+use Rattle.recorder_model.specs.Painting.{raster, accepted_line, lines_of}
+use Rattle.recorder_model.specs.Histories.{IsLawful, cuts, take_numbers, takes, indexes_of, script_length}
+use Rattle.recorder_model.specs.Desk.{job_of}
 use Rattle.px_plane.specs.Planes.{Shows}
 use Rattle.desk_surface.specs.Damage.{Painted}
 use Rattle.desk_state.specs.Standing.{StandsFor}

@@ -6,11 +6,11 @@ use Rattle.std.proofs.lemmas.Bool.Decides.{nat_tests}
 use Rattle.std.proofs.lemmas.List.{append-nil}
 use Rattle.std.proofs.lemmas.List.FromFn.{length-range_with_len}
 use Rattle.desk_surface.proofs.RowsMore.{range-more}
-use Rattle.h265_model.specs.declared.entry.Entry.{Entry}
-use Rattle.h265_model.specs.declared.entry.Entry.TheVariants.{Line, Take}
-use Rattle.h265_model.specs.declared.line.Line as line
-use Rattle.h265_model.specs.Raster.{accepted_line, lines_of}
-use Rattle.h265_model.specs.Histories.{IsLawful, indexes_of, take_numbers, takes, cuts, script_length}
+use Rattle.recorder_model.specs.declared.entry.Entry.{Entry}
+use Rattle.recorder_model.specs.declared.entry.Entry.TheVariants.{Line, Take}
+use Rattle.recorder_model.specs.declared.line.Line as line
+use Rattle.recorder_model.specs.Painting.{accepted_line, lines_of}
+use Rattle.recorder_model.specs.Histories.{IsLawful, indexes_of, take_numbers, takes, cuts, script_length}
 
 abbrev Scripts : Type 0
 Scripts = List (List line.Line)

@@ -4,15 +4,18 @@ use Rattle.std.specs.Prelude.{count_by}
 use Rattle.std.specs.List.{range_with_len}
 use Rattle.std.proofs.lemmas.List.Sums.{sum_by_push, fold_push}
 use Rattle.std.proofs.lemmas.List.FromFn.{map-range_with_len_more}
-use Rattle.h265_model.specs.declared.line.Job.{Job}
-use Rattle.h265_model.specs.declared.line.Line.{Line}
-use Rattle.h265_model.specs.declared.line.Line.TheVariants.{Cut}
+use Rattle.h265_model.specs.declared.job.Job.{Job}
+use Rattle.recorder_model.specs.declared.line.Line.{Line}
+use Rattle.recorder_model.specs.declared.line.Line.TheVariants.{Cut}
 use Rattle.h265_model.specs.Plain.{Size, place_values}
-use Rattle.h265_model.specs.Lines.{black}
-use Rattle.h265_model.specs.Script.{is_cut}
-use Rattle.h265_model.specs.Raster.{Raster, raster, colour, repainted, rasters_after}
-use Rattle.h265_model.specs.Desk.{job_for, touched_by}
-use Rattle.px_plane.specs.Planes.{Planes, Shows, ShowsLines}
+use Rattle.h265_model.specs.Raster.{black}
+use Rattle.recorder_model.specs.Script.{is_cut}
+use Rattle.h265_model.specs.Raster.{Raster}
+use Rattle.recorder_model.specs.Painting.{raster, colour, repainted, rasters_after}
+use Rattle.recorder_model.specs.Desk.{touched_by}
+use Rattle.h265_model.specs.Tiles.{job_for}
+use Rattle.px_plane.specs.Planes.{Planes, Shows}
+use Rattle.desk_surface.specs.Shown.{ShowsLines}
 use Rattle.desk_surface.specs.Damage.{Painted, IsFlagged}
 use Rattle.desk_state.specs.Replays.{part_of, raster_at, job_on, jobs_on, IsAfter}
 use Rattle.desk_state.proofs.Splits.{part_before, part_grows, part_kept, part_begins}

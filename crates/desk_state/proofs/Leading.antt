@@ -5,19 +5,22 @@ use Rattle.std.specs.List.{Contains, slice_split, onto_first}
 use Rattle.std.proofs.lemmas.Bool.Decides.{nat_tests}
 use Rattle.std.proofs.lemmas.List.{append-nil}
 use Rattle.std.proofs.lemmas.List.Sums.{sum_by-cons}
-use Rattle.h265_model.specs.declared.entry.Entry.{Entry}
-use Rattle.h265_model.specs.declared.line.Line.{Line}
-use Rattle.h265_model.specs.declared.line.Line.TheVariants.{Fill, Blit, Cut}
+use Rattle.recorder_model.specs.declared.entry.Entry.{Entry}
+use Rattle.recorder_model.specs.declared.line.Line.{Line}
+use Rattle.recorder_model.specs.declared.line.Line.TheVariants.{Fill, Blit, Cut}
 use Rattle.h265_model.specs.Plain.{Size, Picture, below, place_values, ctu_x, ctu_y}
-use Rattle.h265_model.specs.Script.{is_cut}
-use Rattle.h265_model.specs.Setting.{Setting}
-use Rattle.h265_model.specs.Raster.{Raster, raster, rasters_after, lines_of, component, colour, coded_picture}
-use Rattle.h265_model.specs.Histories.{cuts}
-use Rattle.h265_model.specs.Desk.{touched_by, touched, tile_samples, job_of}
+use Rattle.recorder_model.specs.Script.{is_cut}
+use Rattle.recorder_model.specs.Setting.{Setting}
+use Rattle.h265_model.specs.Raster.{Raster, component, coded_picture}
+use Rattle.recorder_model.specs.Painting.{raster, rasters_after, lines_of, colour}
+use Rattle.recorder_model.specs.Histories.{cuts}
+use Rattle.recorder_model.specs.Desk.{touched_by, touched, job_of}
+use Rattle.h265_model.specs.Tiles.{tile_samples}
 use Rattle.h265_model.proofs.Squares.{length_places}
 use Rattle.px_plane.specs.Planes.{Planes, Shows, picture_of}
 use Rattle.px_plane.specs.Tiles.{DiffersOnlyIn, tile_of}
-use Rattle.px_plane.proofs.Shown.{coded_at, shown_is_coded}
+use Rattle.px_plane.proofs.Shown.{shown_is_coded}
+use Rattle.desk_surface.proofs.Painted.{coded_lines}
 use Rattle.desk_state.specs.Laws.{EachJobLeadsOn, shown_at, shown_before}
 use Rattle.desk_state.specs.Replays.{part_of}
 use Rattle.desk_state.proofs.Jobs.{cut_raster}
@@ -84,7 +87,7 @@ are_next setting h (suc n) less = at_next_cut setting.size [] (lines_of setting.
 
 same_sample : (size : Size) (front part : List Line) (c x y : ℕ) → (Contains (touched_by size part) (tile_of size x y) → ⊥) → coded_picture size (raster size front) c x y ≡ coded_picture size (raster size (front ++ part)) c x y
 same_sample size front part c x y off =
-    coded_at size front c x y ∙ go (nat_lt x size.w && nat_lt y size.h) refl ∙ sym (coded_at size (front ++ part) c x y)
+    coded_lines size front c x y ∙ go (nat_lt x size.w && nat_lt y size.h) refl ∙ sym (coded_lines size (front ++ part) c x y)
   where
     go : (b : Bool) → (nat_lt x size.w && nat_lt y size.h) ≡ b → cond b (component c (colour front x y)) 0 ≡ cond b (component c (colour (front ++ part) x y)) 0
     go true e =

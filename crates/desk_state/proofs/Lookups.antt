@@ -7,10 +7,10 @@ use Rattle.std.specs.Borrow.{Bor}
 use Rattle.std.proofs.lemmas.Bool.{cases_lt}
 use Rattle.std.proofs.lemmas.List.{get_or_past}
 use Rattle.std.proofs.lemmas.Option.{slice_get-get_or, get_or_from_slice_get, none-some}
-use Rattle.h265_model.specs.declared.line.Line.{Line}
-use Rattle.h265_model.specs.declared.line.Line.TheVariants.{Fill, Blit, Cut}
-use Rattle.h265_model.specs.Raster.{accepted_line}
-use Rattle.h265_model.specs.Histories.{script_length}
+use Rattle.recorder_model.specs.declared.line.Line.{Line}
+use Rattle.recorder_model.specs.declared.line.Line.TheVariants.{Fill, Blit, Cut}
+use Rattle.recorder_model.specs.Painting.{accepted_line}
+use Rattle.recorder_model.specs.Histories.{script_length}
 use Rattle.paint_script.specs.Spellable.{IsSpellable, AreSpellable}
 use Rattle.desk_surface.specs.Damage.{HasPixels}
 

@@ -7,13 +7,13 @@ use Rattle.std.proofs.lemmas.Bool.Decides.{nat_tests}
 use Rattle.std.proofs.lemmas.List.{places, take_all, get_or_past}
 use Rattle.std.proofs.lemmas.List.Sums.{sum_by-cons, sum_by_more, sum_by-take-le, count_by-le-length}
 use Rattle.std.proofs.lemmas.List.FromFn.{fill_by_all}
-use Rattle.h265_model.specs.declared.entry.Entry.{Entry}
-use Rattle.h265_model.specs.declared.entry.Entry.TheVariants.{Line, Take}
-use Rattle.h265_model.specs.declared.line.Line as line
-use Rattle.h265_model.specs.declared.line.Line.TheVariants as a_line
-use Rattle.h265_model.specs.Script.{is_cut}
-use Rattle.h265_model.specs.Raster.{accepted_line, lines_of}
-use Rattle.h265_model.specs.Histories.{IsLawful, BeginsMerge, Merges, indexes_of, takes, cuts, script_length}
+use Rattle.recorder_model.specs.declared.entry.Entry.{Entry}
+use Rattle.recorder_model.specs.declared.entry.Entry.TheVariants.{Line, Take}
+use Rattle.recorder_model.specs.declared.line.Line as line
+use Rattle.recorder_model.specs.declared.line.Line.TheVariants as a_line
+use Rattle.recorder_model.specs.Script.{is_cut}
+use Rattle.recorder_model.specs.Painting.{accepted_line, lines_of}
+use Rattle.recorder_model.specs.Histories.{IsLawful, BeginsMerge, Merges, indexes_of, takes, cuts, script_length}
 use Rattle.desk_state.specs.Standing.{most_entries}
 use Rattle.desk_state.proofs.Entries.{length_is}
 

@@ -6,14 +6,16 @@ use Rattle.std.proofs.lemmas.Bool.{cases_eq}
 use Rattle.std.proofs.lemmas.Bool.Decides.{nat_tests}
 use Rattle.std.proofs.lemmas.Nat.{mod-mul-add, div-mul-add, mul-le}
 use Rattle.std.proofs.lemmas.List.Sums.{fold-append}
-use Rattle.h265_model.specs.declared.line.Line.{Line}
-use Rattle.h265_model.specs.declared.line.Line.TheVariants.{Fill, Blit, Cut}
-use Rattle.h265_model.specs.declared.line.Rect.{Rect}
-use Rattle.h265_model.specs.declared.line.Rgb.{Rgb}
-use Rattle.h265_model.specs.Lines.{black}
+use Rattle.recorder_model.specs.declared.line.Line.{Line}
+use Rattle.recorder_model.specs.declared.line.Line.TheVariants.{Fill, Blit, Cut}
+use Rattle.h265_model.specs.declared.rect.Rect.{Rect}
+use Rattle.h265_model.specs.declared.rgb.Rgb.{Rgb}
+use Rattle.h265_model.specs.Raster.{black}
 use Rattle.h265_model.specs.Plain.{Size, ctus, ctu_x, ctu_y}
-use Rattle.h265_model.specs.Raster.{paints, repainted, colour}
-use Rattle.h265_model.specs.Desk.{tile_count, meets_tile, touches, is_touched, touched_by}
+use Rattle.h265_model.specs.Raster.{paints}
+use Rattle.recorder_model.specs.Painting.{repainted, colour}
+use Rattle.recorder_model.specs.Desk.{meets_tile, touches, is_touched, touched_by}
+use Rattle.h265_model.specs.Tiles.{tile_count}
 use Rattle.px_plane.specs.Tiles.{tile_of}
 use Rattle.desk_surface.proofs.Jobs.{all_at}
 

@@ -1,6 +1,6 @@
 -- Accepting a line.
 use Rattle.std.specs.Prelude.{◌≡◌}
-use Rattle.h265_model.specs.declared.line.Line.{Line}
+use Rattle.recorder_model.specs.declared.line.Line.{Line}
 use Rattle.desk_state.specs.declared.replay.Replay.{Replay}
 use Rattle.desk_state.specs.Replays.{IsAfter, IsOneMore}
 

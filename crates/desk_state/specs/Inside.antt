@@ -1,8 +1,8 @@
 -- A desk state's fields.
 use Rattle.std.specs.Prelude.{◌≡◌, ◌<◌, ◌≤◌, ◌-◌, ◌^◌, vec_capacity}
-use Rattle.h265_model.specs.Setting.{Setting}
-use Rattle.h265_model.specs.Turn.{State}
-use Rattle.h265_model.specs.Histories.{cuts, takes}
+use Rattle.recorder_model.specs.Setting.{Setting}
+use Rattle.recorder_model.specs.Turn.{State}
+use Rattle.recorder_model.specs.Histories.{cuts, takes}
 use Rattle.desk_state.specs.Standing.{StandsFor, most_entries}
 use Rattle.desk_state.specs.declared.state.DeskState.TheInside.{Inside}
 

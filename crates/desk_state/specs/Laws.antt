@@ -1,10 +1,12 @@
 -- What the job of a cut makes of the picture before it.
 use Rattle.std.specs.Prelude.{◌≡◌, ℕ, zero, suc, ◌<◌, List, [], slice_index_or}
-use Rattle.h265_model.specs.declared.entry.Entry.{Entry}
-use Rattle.h265_model.specs.Setting.{Setting}
-use Rattle.h265_model.specs.Raster.{Raster, raster, pictures, coded_picture}
-use Rattle.h265_model.specs.Histories.{cuts}
-use Rattle.h265_model.specs.Desk.{job_of, job_for}
+use Rattle.recorder_model.specs.declared.entry.Entry.{Entry}
+use Rattle.recorder_model.specs.Setting.{Setting}
+use Rattle.h265_model.specs.Raster.{Raster, coded_picture}
+use Rattle.recorder_model.specs.Painting.{raster, pictures}
+use Rattle.recorder_model.specs.Histories.{cuts}
+use Rattle.recorder_model.specs.Desk.{job_of}
+use Rattle.h265_model.specs.Tiles.{job_for}
 use Rattle.px_plane.specs.Planes.{Planes, Shows}
 use Rattle.px_plane.specs.Tiles.{IsJobOf, DiffersOnlyIn}
 

@@ -1,13 +1,15 @@
 -- The surface and the jobs that lines leave.
 use Rattle.std.specs.Prelude.{◌≡◌, ℕ, ◌-◌, ◌≤◌, List, [], ◌∷◌, ◌++◌, map, count_by, slice_index_or}
 use Rattle.std.specs.List.{slice_split, range_with_len}
-use Rattle.h265_model.specs.declared.line.Job.{Job}
-use Rattle.h265_model.specs.declared.line.Line.{Line}
+use Rattle.h265_model.specs.declared.job.Job.{Job}
+use Rattle.recorder_model.specs.declared.line.Line.{Line}
 use Rattle.h265_model.specs.Plain.{Size}
-use Rattle.h265_model.specs.Script.{is_cut}
-use Rattle.h265_model.specs.Raster.{Raster, rasters_after}
-use Rattle.h265_model.specs.Desk.{job_for, touched_by}
-use Rattle.px_plane.specs.Planes.{ShowsLines}
+use Rattle.recorder_model.specs.Script.{is_cut}
+use Rattle.h265_model.specs.Raster.{Raster}
+use Rattle.recorder_model.specs.Painting.{rasters_after}
+use Rattle.recorder_model.specs.Desk.{touched_by}
+use Rattle.h265_model.specs.Tiles.{job_for}
+use Rattle.desk_surface.specs.Shown.{ShowsLines}
 use Rattle.desk_surface.specs.Damage.{Painted, IsFlagged}
 
 -- part n of these lines, which lies before their cut n

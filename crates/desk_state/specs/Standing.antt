@@ -1,15 +1,16 @@
 -- What a desk state stands for, and what a call makes of it.
 use Rattle.std.specs.Prelude.{◌≡◌, ℕ, ◌+◌, ◌<◌, List, [], ◌∷◌, ◌++◌, length, count_by, sum_by}
-use Rattle.h265_model.specs.declared.entry.Entry.{Entry}
-use Rattle.h265_model.specs.declared.entry.Entry.TheVariants as entry
-use Rattle.h265_model.specs.declared.line.Job.{Job}
-use Rattle.h265_model.specs.declared.line.Line.{Line}
-use Rattle.h265_model.specs.Script.{is_cut}
-use Rattle.h265_model.specs.Setting.{Setting}
-use Rattle.h265_model.specs.Turn.{State}
-use Rattle.h265_model.specs.Raster.{Raster, accepted_line}
-use Rattle.h265_model.specs.Histories.{indexes_of, script_length, takes}
-use Rattle.h265_model.specs.Desk.{IsReplay, job_of}
+use Rattle.recorder_model.specs.declared.entry.Entry.{Entry}
+use Rattle.recorder_model.specs.declared.entry.Entry.TheVariants as entry
+use Rattle.h265_model.specs.declared.job.Job.{Job}
+use Rattle.recorder_model.specs.declared.line.Line.{Line}
+use Rattle.recorder_model.specs.Script.{is_cut}
+use Rattle.recorder_model.specs.Setting.{Setting}
+use Rattle.recorder_model.specs.Turn.{State}
+use Rattle.h265_model.specs.Raster.{Raster}
+use Rattle.recorder_model.specs.Painting.{accepted_line}
+use Rattle.recorder_model.specs.Histories.{indexes_of, script_length, takes}
+use Rattle.recorder_model.specs.Desk.{IsReplay, job_of}
 use Rattle.px_plane.specs.Planes.{Shows}
 use Rattle.desk_surface.specs.Damage.{Painted}
 

@@ -6,9 +6,9 @@ mod replay;
 mod state;
 
 pub use desk_surface::{Job, NoMemory, Size};
-pub use h265_model::{Entry, Told};
 pub use laws::each_job_leads_to_the_next_picture;
 pub use paint_script::Scripts;
+pub use recorder_model::{Entry, Told};
 pub use state::DeskState;
 
 #[cfg(test)]

@@ -1,13 +1,13 @@
 // The surface and the jobs that a desk's lines leave.
 ghost use Rattle.std.specs.Prelude.{◌≡◌, ◌<◌, ◌^◌, ◌-◌, [], true, IfOk, OnOk, OnErr};
-ghost use Rattle.h265_model.specs.Script.{is_cut};
-ghost use Rattle.h265_model.specs.declared.line.Line.TheVariants.{Cut};
+ghost use Rattle.recorder_model.specs.Script.{is_cut};
+ghost use Rattle.recorder_model.specs.declared.line.Line.TheVariants.{Cut};
 ghost use Rattle.desk_surface.specs.Damage.{HasPixels};
 ghost use Rattle.desk_state.specs.Accepting.{HasAccepted, IsAsBefore};
 ghost use Rattle.desk_state.specs.Replays.{IsAfter};
 
 use desk_surface::{Job, NoMemory, Size, Surface};
-use h265_model::Line;
+use recorder_model::Line;
 use std::alloc::Global;
 use std::collections::VecDeque;
 

@@ -1,14 +1,14 @@
 //! A desk's state.
 ghost use Rattle.std.specs.Prelude.{◌≡◌, ◌<◌, ◌^◌, ◌-◌, ◌↔◌, [], true, false, length, IfOk, IfSome, OnErr, IsSome, MatchOption};
-ghost use Rattle.h265_model.specs.declared.entry.Entry.TheVariants as entry;
-ghost use Rattle.h265_model.specs.Script.{is_cut};
-ghost use Rattle.h265_model.specs.Histories.{IsLawful, cuts, takes};
+ghost use Rattle.recorder_model.specs.declared.entry.Entry.TheVariants as entry;
+ghost use Rattle.recorder_model.specs.Script.{is_cut};
+ghost use Rattle.recorder_model.specs.Histories.{IsLawful, cuts, takes};
 ghost use Rattle.desk_state.specs.Standing.{most_entries, IsNext, next_line, with_entry, HasTaken};
 
 use crate::replay::Replay;
 use desk_surface::{Job, NoMemory, Size};
-use h265_model::{Entry, Told};
 use paint_script::Scripts;
+use recorder_model::{Entry, Told};
 use std::alloc::Global;
 use std::marker::Model;
 
@@ -25,7 +25,7 @@ pub struct DeskState {
 }
 
 impl Model for DeskState {
-    ghost use Rattle.h265_model.specs.Turn.{State};
+    ghost use Rattle.recorder_model.specs.Turn.{State};
 
     ghost Value = { State };
 

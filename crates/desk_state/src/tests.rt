@@ -1,12 +1,13 @@
 //! One desk on one thread.
 ghost use Rattle.std.specs.Prelude.{ℕ, ◌≡◌, ◌≢◌, ◌<◌, ◌∷◌, [], length, IfOk, OnOk};
-ghost use Rattle.h265_model.specs.Histories.{indexes_of, script_length};
+ghost use Rattle.recorder_model.specs.Histories.{indexes_of, script_length};
 ghost use Rattle.paint_script.specs.Spellable.{IsSpellable, IsSpellableRect};
 ghost use Rattle.desk_state.specs.Standing.{most_entries};
 
 use crate::{DeskState, Entry, Job, NoMemory, Scripts, Size};
-use h265_model::{Line, Rect, Rgb};
+use h265_model::{Rect, Rgb};
 use paint_script::Script;
+use recorder_model::Line;
 use std::alloc::Global;
 use std::test::Fail;
 

@@ -4,9 +4,10 @@ use Rattle.std.proofs.lemmas.Nat.{mul-le}
 use Rattle.std.proofs.lemmas.List.FromFn.{get_or-map-range_with_len}
 use Rattle.std.specs.Prelude.{filter}
 use Rattle.std.specs.List.{AllByRecursion}
-use Rattle.h265_model.specs.declared.line.Line.{Line}
+use Rattle.recorder_model.specs.declared.line.Line.{Line}
 use Rattle.h265_model.specs.Plain.{Size, ctus, below}
-use Rattle.h265_model.specs.Desk.{tile_count, is_touched, touched_by}
+use Rattle.recorder_model.specs.Desk.{is_touched, touched_by}
+use Rattle.h265_model.specs.Tiles.{tile_count}
 use Rattle.desk_surface.specs.Damage.{raised}
 use Rattle.desk_surface.proofs.RowsMore.{range-more}
 

@@ -4,3 +4,4 @@ pub mod Outside
 pub mod RaisedRows
 pub mod RowsMore
 pub mod Jobs
+pub mod Painted

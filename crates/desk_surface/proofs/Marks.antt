@@ -3,11 +3,12 @@ use Rattle.std.proofs.Common.{◌≡◌, ℕ, ◌<◌, ◌||◌, Bool, true, fal
 use Rattle.std.proofs.lemmas.List.{get_or-replicate, length-replicate}
 use Rattle.std.proofs.lemmas.List.Folds.{list_any-append}
 use Rattle.std.proofs.lemmas.List.FromFn.{fill_by_all, get_or-map-range_with_len, length-map-range_with_len}
-use Rattle.h265_model.specs.declared.line.Line.{Line}
-use Rattle.h265_model.specs.declared.line.Line.TheVariants.{Fill, Blit, Cut}
-use Rattle.h265_model.specs.declared.line.Rect.{Rect}
+use Rattle.recorder_model.specs.declared.line.Line.{Line}
+use Rattle.recorder_model.specs.declared.line.Line.TheVariants.{Fill, Blit, Cut}
+use Rattle.h265_model.specs.declared.rect.Rect.{Rect}
 use Rattle.h265_model.specs.Plain.{Size, below}
-use Rattle.h265_model.specs.Desk.{tile_count, meets_tile, touches, is_touched}
+use Rattle.recorder_model.specs.Desk.{meets_tile, touches, is_touched}
+use Rattle.h265_model.specs.Tiles.{tile_count}
 use Rattle.desk_surface.specs.Damage.{IsOfRect}
 
 or_nothing : (a : Bool) → (a || false) ≡ a

@@ -3,9 +3,10 @@ use Rattle.std.proofs.Common.{◌≡◌, ℕ, ◌+◌, ◌*◌, ◌-◌, ◌/◌
 use Rattle.std.proofs.lemmas.Bool.Decides.{nat_tests}
 use Rattle.std.proofs.lemmas.Nat.{div_below}
 use Rattle.std.proofs.Math.Nat.{mul_comm}
-use Rattle.h265_model.specs.declared.line.Rect.{Rect}
+use Rattle.h265_model.specs.declared.rect.Rect.{Rect}
 use Rattle.h265_model.specs.Plain.{Size, ctus}
-use Rattle.h265_model.specs.Desk.{tile_count, overlap, meets_tile}
+use Rattle.recorder_model.specs.Desk.{overlap, meets_tile}
+use Rattle.h265_model.specs.Tiles.{tile_count}
 use Rattle.px_plane.specs.Planes.{IsInside}
 use Rattle.desk_surface.specs.Damage.{is_between}
 

@@ -1,10 +1,11 @@
 -- A desktop with a flag for each of its tiles.
 use Rattle.std.specs.Prelude.{◌≡◌, ℕ, zero, suc, ◌*◌, Bool, ◌&&◌, List, [], ◌∷◌, ◌++◌, length, map, nat_le, nat_lt, slice_index_or, false, if◌then◌else◌}
-use Rattle.h265_model.specs.declared.line.Line.{Line}
-use Rattle.h265_model.specs.declared.line.Line.TheVariants.{Fill, Blit, Cut}
-use Rattle.h265_model.specs.declared.line.Rect.{Rect}
+use Rattle.recorder_model.specs.declared.line.Line.{Line}
+use Rattle.recorder_model.specs.declared.line.Line.TheVariants.{Fill, Blit, Cut}
+use Rattle.h265_model.specs.declared.rect.Rect.{Rect}
 use Rattle.h265_model.specs.Plain.{below}
-use Rattle.h265_model.specs.Desk.{tile_count, is_touched}
+use Rattle.recorder_model.specs.Desk.{is_touched}
+use Rattle.h265_model.specs.Tiles.{tile_count}
 use Rattle.px_plane.specs.Planes.{Planes}
 
 pub record Painted : Type 0 where

@@ -1,7 +1,8 @@
 //! One flag a tile of 32 by 32 samples, in rows from the top left.
 ghost use Rattle.std.specs.Prelude.{◌≡◌, ℕ, ◌+◌, ◌*◌, ◌/◌, ◌%◌, ◌<◌, ◌≤◌, ◌||◌, ◌^◌, length, slice_index_or, false, IfOk};
 ghost use Rattle.h265_model.specs.Plain.{ctus, below};
-ghost use Rattle.h265_model.specs.Desk.{tile_count, meets_tile};
+ghost use Rattle.recorder_model.specs.Desk.{meets_tile};
+ghost use Rattle.h265_model.specs.Tiles.{tile_count};
 ghost use Rattle.desk_surface.specs.Damage.{is_between, raised};
 
 use h265_model::{NoMemory, Rect};

@@ -5,8 +5,9 @@ mod flags;
 mod samples;
 mod surface;
 
-pub use h265_model::{Job, Line, NoMemory};
+pub use h265_model::{Job, NoMemory};
 pub use px_plane::{Picture, Size};
+pub use recorder_model::Line;
 pub use surface::Surface;
 
 #[cfg(test)]

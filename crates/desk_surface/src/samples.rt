@@ -2,7 +2,7 @@
 ghost use Rattle.std.specs.Prelude.{◌≡◌, ℕ, ◌+◌, ◌*◌, ◌<◌, ◌≤◌, ◌++◌, OnOk, IfOk, map, flat_map, length};
 ghost use Rattle.std.specs.List.{All};
 ghost use Rattle.h265_model.specs.Plain.{coded, ctus, below, ctu_x, ctu_y, place_values};
-ghost use Rattle.h265_model.specs.Desk.{tile_count, tile_samples};
+ghost use Rattle.h265_model.specs.Tiles.{tile_count, tile_samples};
 ghost use Rattle.px_plane.specs.Planes.{picture_of};
 
 use h265_model::NoMemory;

@@ -1,17 +1,19 @@
 //! A desktop with its flags.
 ghost use Rattle.std.specs.Prelude.{◌≡◌, ℕ, ◌*◌, ◌++◌, ◌∷◌, [], List, length, IfOk, OnErr, false};
-ghost use Rattle.h265_model.specs.declared.line.Line.{Line};
-ghost use Rattle.h265_model.specs.declared.line.Line.TheVariants as line;
-ghost use Rattle.h265_model.specs.Script.{is_cut};
-ghost use Rattle.h265_model.specs.Raster.{raster};
-ghost use Rattle.h265_model.specs.Desk.{tile_count, touched_by, job_for};
-ghost use Rattle.px_plane.specs.Planes.{ShowsLines};
+ghost use Rattle.recorder_model.specs.declared.line.Line.{Line};
+ghost use Rattle.recorder_model.specs.declared.line.Line.TheVariants as line;
+ghost use Rattle.recorder_model.specs.Script.{is_cut};
+ghost use Rattle.recorder_model.specs.Painting.{raster};
+ghost use Rattle.recorder_model.specs.Desk.{touched_by};
+ghost use Rattle.h265_model.specs.Tiles.{tile_count, job_for};
+ghost use Rattle.desk_surface.specs.Shown.{ShowsLines};
 ghost use Rattle.desk_surface.specs.Damage.{IsFlagged, HasPixels, IsOfRect};
 
 use crate::flags::{raise, raised};
 use crate::samples::samples_of;
-use h265_model::{Bytes, Job, Line, NoMemory, Numbers, Rect};
+use h265_model::{Bytes, Job, NoMemory, Numbers, Rect};
 use px_plane::{Picture, Size};
+use recorder_model::Line;
 use std::alloc::Global;
 use std::marker::Model;
 
@@ -26,7 +28,7 @@ pub struct Surface {
 
 impl Model for Surface {
     ghost use Rattle.std.specs.Prelude.{◌≡◌, length};
-    ghost use Rattle.h265_model.specs.Desk.{tile_count};
+    ghost use Rattle.h265_model.specs.Tiles.{tile_count};
     ghost use Rattle.desk_surface.specs.Damage.{Painted};
 
     ghost Value = { Painted };

@@ -1,10 +1,11 @@
 //! Damaged tiles and their samples.
 ghost use Rattle.std.specs.Prelude.{◌≡◌, false};
-ghost use Rattle.h265_model.specs.Script.{is_cut};
+ghost use Rattle.recorder_model.specs.Script.{is_cut};
 ghost use Rattle.desk_surface.specs.Damage.{HasPixels};
 
 use crate::{Line, Size, Surface};
-use h265_model::{Pixels, Rect, Rgb};
+use h265_model::{Rect, Rgb};
+use recorder_model::Pixels;
 use std::test::Fail;
 
 const WHITE: Rgb = Rgb {

@@ -2,7 +2,7 @@
 use Rattle.std.specs.Prelude.{ℕ, List, map, Vec, String, string_bytes}
 use Rattle.std.specs.BTreeMap.{BTreeMap}
 use Rattle.std.specs.FinMap.{from_entries}
-use Rattle.h265_model.specs.Files.{Files}
+use Rattle.recorder_model.specs.Files.{Files}
 
 -- each name with its bytes
 abbrev pub entry_of : {A B : Type 0} → String A × Vec ℕ B → List ℕ × List ℕ

@@ -4,7 +4,7 @@ use Rattle.std.specs.Coded.{Coded, code_by, coded×, coded_ℕ, coded_list}
 use Rattle.std.specs.Ordering.{nat_cmp}
 use Rattle.std.specs.Cmp.Lexicographic.{slice_cmp}
 use Rattle.std.specs.FinMap.{code, get, insert}
-use Rattle.h265_model.specs.Files.{Files, file_at}
+use Rattle.recorder_model.specs.Files.{Files, file_at}
 use Rattle.edges.specs.Counts.{raised, taken_at}
 use Rattle.edges.specs.declared.shelf.ReadError.{ReadError}
 use Rattle.edges.specs.declared.shelf.ReadError.TheVariants as read

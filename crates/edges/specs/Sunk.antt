@@ -5,8 +5,8 @@ use Rattle.std.specs.Ordering.{nat_cmp, eq_by_cmp}
 use Rattle.std.specs.Cmp.{eq_by_cmp_equiv}
 use Rattle.std.specs.Cmp.Lexicographic.{nat_list_cmp_total}
 use Rattle.std.specs.FinMap.{get, insert, get-insert}
-use Rattle.h265_model.specs.Files.{Files, file_at, WhereTold}
-use Rattle.h265_model.specs.FileLaws.{file_at-insert}
+use Rattle.recorder_model.specs.Files.{Files, file_at, WhereTold}
+use Rattle.recorder_model.specs.FileLaws.{file_at-insert}
 use Rattle.edges.specs.Shelf.{Creates}
 
 -- where the files are told, this one is there

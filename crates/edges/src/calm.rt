@@ -19,7 +19,7 @@ pub struct CalmShelf {
 impl Model for CalmShelf {
     ghost use Rattle.std.specs.Coded.{coded_ℕ, coded_list};
     ghost use Rattle.std.specs.FinMap.{code};
-    ghost use Rattle.h265_model.specs.Files.{Files};
+    ghost use Rattle.recorder_model.specs.Files.{Files};
     ghost use Rattle.edges.specs.FileMap.{files_of};
 
     ghost Value = { Files };

@@ -1,6 +1,6 @@
 //! The real files.
 ghost use Rattle.std.specs.Prelude.{◌≡◌, ◌≢◌, None, Some, Err, IsOkUnless};
-ghost use Rattle.h265_model.specs.Files.{WhereTold};
+ghost use Rattle.recorder_model.specs.Files.{WhereTold};
 ghost use Rattle.edges.specs.Causes.{HasReadCause, HasWriteCause};
 ghost use Rattle.edges.specs.Counts.{Disk, after_read, after_create, faults_after};
 ghost use Rattle.edges.specs.Shelf.{ReadsWhole, Creates, AppendsTo};

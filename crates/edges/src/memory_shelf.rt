@@ -2,7 +2,7 @@
 ghost use Rattle.std.specs.Prelude.{◌≡◌, ◌++◌, Some, None, [], if◌then◌else◌, IfOk, OnOk, OnErr};
 ghost use Rattle.std.specs.Option.{option_copied};
 ghost use Rattle.std.specs.FinMap.{empty, get, insert};
-ghost use Rattle.h265_model.specs.Files.{WhereTold, file_at};
+ghost use Rattle.recorder_model.specs.Files.{WhereTold, file_at};
 ghost use Rattle.edges.specs.Causes.{HasReadCause, HasWriteCause};
 ghost use Rattle.edges.specs.MemoryFiles.{MemoryFiles, is_listed, FoundAnswer, ReadsMemory, CreatesMemory, AppendsMemory};
 ghost use Rattle.edges.specs.Shelf.{ReadsWhole, Creates, AppendsTo};

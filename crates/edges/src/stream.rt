@@ -1,7 +1,7 @@
 //! The standard output.
 ghost use Rattle.std.specs.Prelude.{◌≡◌, None, Some, [], IsOkUnless};
 ghost use Rattle.std.specs.FinMap.{empty};
-ghost use Rattle.h265_model.specs.Files.{WhereTold};
+ghost use Rattle.recorder_model.specs.Files.{WhereTold};
 ghost use Rattle.edges.specs.Causes.{HasWriteCause};
 ghost use Rattle.edges.specs.Counts.{faults_after};
 

@@ -1,6 +1,6 @@
 // Expected bytes are written out by hand.
 ghost use Rattle.std.specs.Prelude.{◌≡◌, ◌++◌, OnOk};
-ghost use Rattle.h265_model.specs.Files.{WhereTold, file_at};
+ghost use Rattle.recorder_model.specs.Files.{WhereTold, file_at};
 
 use crate::{
     CalmShelf, DiskShelf, FileSink, Gate, MemoryShelf, MemorySink, NoGate, ReadError, Shelf, Sink,

@@ -3,7 +3,7 @@ use Rattle.std.proofs.Common.{◌≡◌, ℕ, ◌+◌, ◌-◌, ◌*◌, ◌/◌
 use Rattle.std.specs.Prelude.{nat_lt, IsTrue}
 use Rattle.std.specs.List.{AllByRecursion}
 use Rattle.std.proofs.lemmas.Bool.Decides.{nat_tests}
-use Rattle.h265_model.specs.Script.{◌>>-◌}
+use Rattle.h265_model.specs.Bits.{◌>>-◌}
 use Rattle.h265_model.specs.Bits.{u, bits, bytes, alignment}
 use Rattle.h265_model.specs.Fields.{Field, U, fixed, golomb, fields_bits, aligned_bits, read_field}
 use Rattle.h265_model.specs.SliceHead.{head_front, poc_fields, head_middle, entry_fields, head_fields, head_bits, read_poc, read_offsets, read_entries, read_head}

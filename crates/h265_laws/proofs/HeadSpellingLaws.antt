@@ -3,7 +3,7 @@ use Rattle.std.proofs.Common.{◌≡◌, ℕ, zero, suc, ◌+◌, ◌-◌, ◌*�
 use Rattle.std.specs.Prelude.{nat_lt}
 use Rattle.std.proofs.Math.Seq.{take-append_seam}
 use Rattle.std.proofs.lemmas.List.{append-nil}
-use Rattle.h265_model.specs.Script.{◌>>-◌}
+use Rattle.h265_model.specs.Bits.{◌>>-◌}
 use Rattle.h265_model.specs.Plain.{AreBytes}
 use Rattle.h265_model.specs.Bits.{u, value, bits, bytes, alignment, read_alignment}
 use Rattle.h265_model.specs.Fields.{U, fixed, golomb, fields_bits, aligned_bits, read_field, read_fields, or_number}

@@ -4,7 +4,6 @@ pub mod ParamLaws
 pub mod SpellingLaws
 pub mod ParamSpellingLaws
 pub mod Prefixes
-pub mod PlayLaws
 pub mod Digits
 pub mod ReadBack
 pub mod Parts
@@ -34,7 +33,6 @@ pub mod Examples
 pub mod SyntaxExamples
 pub mod StreamExamples
 pub mod RefusalExamples
-pub mod DeskExamples
 pub mod SliceExamples
 pub mod EngineExamples
 pub mod ResidualExamples

@@ -4,8 +4,8 @@ use Rattle.std.specs.Prelude.{nat_lt, nat_le, ◌==◌, ◌&&◌, not, IsTrue}
 use Rattle.std.specs.List.{AllByRecursion}
 use Rattle.std.proofs.lemmas.Bool.Decides.{nat_tests}
 use Rattle.h265_model.specs.Plain.{Size, coded}
-use Rattle.h265_model.specs.Words.{most_area, is_size}
-use Rattle.h265_model.specs.Script.{◌>>-◌}
+use Rattle.h265_model.specs.Settings.{most_area, is_size}
+use Rattle.h265_model.specs.Bits.{◌>>-◌}
 use Rattle.h265_model.specs.Bits.{u, ue, alignment}
 use Rattle.h265_model.specs.Fields.{Field, U, Ue, fixed, golomb, fields_bits, read_fields, read_trailing}
 use Rattle.h265_model.specs.ParamSets.{profile_tier_level, vps_front, vps_back, vps_fields, sps_formats, sps_front, size_fields, is_padded, flag, window_fields, sps_back, sps_fields, pps_fields, set_unit, param_units, set_bits, read_fixed_set, is_coded_side, read_side, read_offset, read_whole, windowed, read_window, read_size, read_sps, read_params}

@@ -6,9 +6,9 @@ use Rattle.std.proofs.lemmas.Bool.{lt-ltb, and_from, cond-true}
 use Rattle.std.proofs.lemmas.Nat.{div-add-mod', div_below}
 use Rattle.h265_model.specs.declared.leaf.Leaf.{Leaf}
 use Rattle.h265_model.specs.Plain.{Size, Picture, coded, ctus, place_values, IsPicture, joined}
-use Rattle.h265_model.specs.declared.line.Rgb.{Rgb}
-use Rattle.h265_model.specs.Lines.{black}
-use Rattle.h265_model.specs.Words.{is_size}
+use Rattle.h265_model.specs.declared.rgb.Rgb.{Rgb}
+use Rattle.h265_model.specs.Raster.{black}
+use Rattle.h265_model.specs.Settings.{is_size}
 use Rattle.h265_model.specs.Raster.{Raster, component, coded_picture, planes, stored_picture, crop}
 use Rattle.h265_model.specs.Choice.{choice}
 use Rattle.h265_model.specs.Tree.{samples_in, leaf_side, IsCopy}

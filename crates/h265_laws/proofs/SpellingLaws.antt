@@ -5,7 +5,7 @@ use Rattle.std.proofs.Math.Nat.{pow-le-pow_right}
 use Rattle.std.proofs.lemmas.Bool.Decides.{nat_tests}
 use Rattle.std.proofs.lemmas.Nat.{pow_pos}
 use Rattle.std.proofs.lemmas.List.{take-append-drop, length-take-le, append-nil}
-use Rattle.h265_model.specs.Script.{◌>>-◌}
+use Rattle.h265_model.specs.Bits.{◌>>-◌}
 use Rattle.h265_model.specs.Bits.{◌>>=◌, u, ue, alignment, digits_up_to, value_after, value, read_u, read_ue_after, read_alignment, all_zero, is_empty}
 use Rattle.h265_model.specs.Fields.{Descriptor, U, Ue, Field, element_bits, fields_bits, read_element, or_number, read_field, read_fields, read_trailing}
 use Rattle.h265_model.proofs.BitLaws.{digits_of, code_of, value-u, length-u}

@@ -13,8 +13,8 @@ use Rattle.h265_model.specs.declared.leaf.SliceKind.TheVariants.{P}
 use Rattle.h265_model.specs.declared.leaf.Leaf.{Leaf}
 use Rattle.h265_model.specs.Plain.{Size, Picture, ctus, below, joined}
 use Rattle.h265_model.specs.Bits.{bytes, ◌>>=◌}
-use Rattle.h265_model.specs.Script.{◌>>-◌}
-use Rattle.h265_model.specs.Words.{Settings}
+use Rattle.h265_model.specs.Bits.{◌>>-◌}
+use Rattle.h265_model.specs.Settings.{Settings}
 use Rattle.h265_model.specs.Raster.{Raster, coded_picture, planes, stored_picture, crop}
 use Rattle.h265_model.specs.NalUnits.{NalUnit, escape, escape_after, start_code, nal_unit_bytes, stream_bytes, units}
 use Rattle.h265_model.specs.Fields.{fields_bits}

@@ -2,10 +2,9 @@
 use Rattle.std.specs.Prelude.{slice_index, ◌≡◌, ℕ, ◌+◌, ◌-◌, ◌*◌, ◌^◌, ◌<◌, ◌≤◌, Bool, List, [], ◌∷◌, ◌++◌, length, take, IsTrue, Ok, Some, ℤ, map, flat_map, Option}
 use Rattle.std.specs.List.{AllByRecursion}
 use Rattle.h265_model.specs.declared.Item.{Item}
-use Rattle.h265_model.specs.declared.line.Line.{Line}
 use Rattle.h265_model.specs.Bits.{ue, bits, bytes, read_ue}
-use Rattle.h265_model.specs.Words.{Settings, is_size}
-use Rattle.h265_model.specs.Raster.{Raster, planes, coded_picture, stored_picture, crop, IsRaster, HasColours, rasters_after}
+use Rattle.h265_model.specs.Settings.{Settings, is_size}
+use Rattle.h265_model.specs.Raster.{Raster, planes, coded_picture, stored_picture, crop, IsRaster}
 use Rattle.h265_model.specs.ParamSets.{param_units, read_params}
 use Rattle.h265_model.specs.SliceHead.{Head, head_bits, read_head, IsHead}
 use Rattle.h265_model.specs.Engine.{Engine, start, aligned, Gives, parts_of, Reads, ReadsWith}
@@ -178,11 +177,6 @@ abbrev pub EachRasterIsCropped : Type 0
 EachRasterIsCropped =
     (size : Size) (raster : Raster) → IsRaster size raster → 0 < size.w →
     crop size (stored_picture size (planes size (coded_picture size raster))) ≡ raster
-
--- the pictures of a script are rasters of its size
-abbrev pub EachPictureIsRaster : Type 0
-EachPictureIsRaster =
-    (size : Size) (lines : List Line) → AllByRecursion HasColours lines → AllByRecursion (IsRaster size) (rasters_after size [] lines)
 
 -- ---- emulation prevention (7.3.1.1, 7.4.2.1)
 

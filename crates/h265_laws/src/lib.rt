@@ -1,7 +1,7 @@
 //! Laws over the definitions of `h265_model`. Each function does nothing: its clause is the law.
 #![tactic(auto)]
 
-ghost use Rattle.h265_laws.specs.Laws.{EachCodeIsRead, EachNalUnitIsRead, EachSizeIsRead, EachSizeIsSpelled, EachHeadIsRead, EachHeadIsSpelled, EachEscapeIsUndone, EachSubstreamIsCut, EachListIsReadBack, EachTruncatedCodeIsRead, EachFixedCodeIsRead, EachGolombCodeIsRead, EachRemainingLevelIsRead, EachModeIsRead, EachBlockIsRead, EachLeafIsRead, EachTreeIsRead, EachRowIsRead, EachChoiceIsLawful, EachPictureIsSource, EachRowIsWellFormed, EachRowIsSubstream, EachSliceIsRead, EachPictureIsRebuilt, EachRasterIsCropped, EachPictureIsRaster, EachStreamIsDecoded, EachPrefixIsKept, EachScheduleGivesTheBytes};
+ghost use Rattle.h265_laws.specs.Laws.{EachCodeIsRead, EachNalUnitIsRead, EachSizeIsRead, EachSizeIsSpelled, EachHeadIsRead, EachHeadIsSpelled, EachEscapeIsUndone, EachSubstreamIsCut, EachListIsReadBack, EachTruncatedCodeIsRead, EachFixedCodeIsRead, EachGolombCodeIsRead, EachRemainingLevelIsRead, EachModeIsRead, EachBlockIsRead, EachLeafIsRead, EachTreeIsRead, EachRowIsRead, EachChoiceIsLawful, EachPictureIsSource, EachRowIsWellFormed, EachRowIsSubstream, EachSliceIsRead, EachPictureIsRebuilt, EachRasterIsCropped, EachStreamIsDecoded, EachPrefixIsKept, EachScheduleGivesTheBytes};
 
 /// Each Exp-Golomb code is read back.
 pub fn each_code_is_read()
@@ -121,11 +121,6 @@ pub fn each_slice_is_read()
 /// Each picture is rebuilt from what is read of its leaves.
 pub fn each_picture_is_rebuilt()
     ensures { EachPictureIsRebuilt }
-{}
-
-/// The pictures of a script are rasters of its size.
-pub fn each_picture_is_raster()
-    ensures { EachPictureIsRaster }
 {}
 
 /// Each raster is cut out of its coded picture.

@@ -4,7 +4,7 @@ use Rattle.std.specs.Prelude.{◌==◌, ◌&&◌, nat_lt}
 use Rattle.std.specs.List.{list_all, last_or}
 use Rattle.std.proofs.lemmas.Bool.Decides.{nat_tests}
 use Rattle.std.proofs.lemmas.List.{take_at, drop_at, append-nil, length-replicate}
-use Rattle.h265_model.specs.Script.{◌>>-◌}
+use Rattle.h265_model.specs.Bits.{◌>>-◌}
 use Rattle.h265_model.specs.Bits.{alignment, read_alignment, all_zero, digit, value_after, value, bits, bytes, is_empty}
 use Rattle.h265_model.specs.Fields.{Descriptor, U, Ue, Field, element_bits, fields_bits, aligned_bits, read_element, or_number, read_field, read_fields, read_trailing}
 use Rattle.h265_model.specs.NalUnits.{EndsWell}

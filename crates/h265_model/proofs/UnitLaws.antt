@@ -4,7 +4,7 @@ use Rattle.std.specs.Prelude.{◌&&◌, ◌==◌, nat_le, nat_lt}
 use Rattle.std.specs.List.{AllByRecursion, last_or}
 use Rattle.std.proofs.lemmas.Bool.Decides.{nat_tests}
 use Rattle.std.proofs.lemmas.List.{drop_at}
-use Rattle.h265_model.specs.Script.{◌>>-◌}
+use Rattle.h265_model.specs.Bits.{◌>>-◌}
 use Rattle.h265_model.specs.NalUnits.{NalUnit, escape_after, escape, nal_unit_bytes, stream_bytes, only_zeros, is_end, payload, forbidden, nal_unit_of, next_start, units_within, units, IsNalUnit}
 use Rattle.h265_model.proofs.SyntaxLaws.{unescape-escape}
 

@@ -1,10 +1,15 @@
 -- Bit strings, the most significant bit first, and the descriptors of syntax elements (7.2, 9.2).
-use Rattle.std.specs.Prelude.{ℕ, zero, suc, ◌+◌, ◌-◌, ◌*◌, ◌/◌, ◌%◌, ◌^◌, Bool, true, false, List, [], ◌∷◌, ◌++◌, length, take, drop, replicate, flat_map, Option, Some, None, ℤ, pos, negsuc, ◌==◌, nat_lt, nat_le, if◌then◌else◌}
+use Rattle.std.specs.Prelude.{ℕ, zero, suc, ◌+◌, ◌-◌, ◌*◌, ◌/◌, ◌%◌, ◌^◌, Bool, true, false, List, [], ◌∷◌, ◌++◌, length, take, drop, replicate, flat_map, Option, Some, None, Result, Ok, Err, ℤ, pos, negsuc, ◌==◌, nat_lt, nat_le, if◌then◌else◌}
 
 infixl 10 ◌>>=◌
 abbrev pub ◌>>=◌ : {A B : Type 0} → Option A → (A → Option B) → Option B
 None >>= f = None
 (Some x) >>= f = f x
+
+infixl 10 ◌>>-◌
+abbrev pub ◌>>-◌ : {A B E : Type 0} → Result A E → (A → Result B E) → Result B E
+(Ok x) >>- f = f x
+(Err e) >>- f = Err e
 
 -- how many binary digits a number has, of at most n
 unfoldable pub digits_up_to : ℕ → ℕ → ℕ

@@ -3,7 +3,7 @@ use Rattle.std.specs.Prelude.{ℕ, ◌+◌, ◌*◌, ◌%◌, Bool, true, false,
 use Rattle.std.specs.Bool.{beq}
 use Rattle.h265_model.specs.Plain.{Size, Picture, ctus}
 use Rattle.h265_model.specs.Bits.{◌>>=◌}
-use Rattle.h265_model.specs.Script.{◌>>-◌}
+use Rattle.h265_model.specs.Bits.{◌>>-◌}
 use Rattle.h265_model.specs.Raster.{Raster, crop, blank}
 use Rattle.h265_model.specs.NalUnits.{NalUnit}
 use Rattle.h265_model.specs.ParamSets.{read_sets}

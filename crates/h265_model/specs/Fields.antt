@@ -1,7 +1,7 @@
 -- Syntax tables: lists of fields with the values that they have (7.2, 7.3).
 use Rattle.std.specs.Prelude.{ℕ, Bool, List, [], ◌∷◌, ◌++◌, length, Option, Some, None, Result, Ok, Err, ◌==◌, if◌then◌else◌}
 use Rattle.h265_model.specs.Bits.{u, ue, alignment, read_u, read_ue, read_alignment, is_empty}
-use Rattle.h265_model.specs.Script.{◌>>-◌}
+use Rattle.h265_model.specs.Bits.{◌>>-◌}
 
 -- how a syntax element is coded
 pub data Descriptor : Type 0 where

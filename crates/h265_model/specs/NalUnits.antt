@@ -1,7 +1,7 @@
 -- NAL units and the byte stream (7.3.1, 7.4.2, Annex B).
 use Rattle.std.specs.Prelude.{ℕ, zero, suc, ◌+◌, Bool, true, false, ◌||◌, ◌&&◌, List, [], ◌∷◌, ◌++◌, length, take, drop, Option, Some, None, Result, Ok, Err, ◌==◌, nat_lt, nat_le, flat_map, if◌then◌else◌, ◌≡◌, ◌≢◌, ◌<◌}
 use Rattle.std.specs.List.{last_or}
-use Rattle.h265_model.specs.Script.{◌>>-◌}
+use Rattle.h265_model.specs.Bits.{◌>>-◌}
 
 -- the header's two bytes, and the bytes of the payload without emulation prevention
 pub record NalUnit : Type 0 where

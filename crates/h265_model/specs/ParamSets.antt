@@ -2,8 +2,8 @@
 use Rattle.std.specs.Prelude.{ℕ, ◌+◌, ◌-◌, ◌*◌, ◌%◌, ◌^◌, Bool, true, false, not, ◌&&◌, List, [], ◌∷◌, ◌++◌, Result, Ok, Err, ◌==◌, nat_le, nat_lt, bytes_eq, if◌then◌else◌}
 use Rattle.h265_model.specs.Plain.{Size, coded}
 use Rattle.h265_model.specs.Bits.{bits, bytes}
-use Rattle.h265_model.specs.Script.{◌>>-◌}
-use Rattle.h265_model.specs.Words.{most_side, most_area}
+use Rattle.h265_model.specs.Bits.{◌>>-◌}
+use Rattle.h265_model.specs.Settings.{most_side, most_area}
 use Rattle.h265_model.specs.NalUnits.{NalUnit}
 use Rattle.h265_model.specs.Fields.{Field, U, Ue, fixed, golomb, fields_bits, aligned_bits, read_field, read_fields, read_trailing}
 

@@ -5,7 +5,7 @@ use Rattle.h265_model.specs.declared.leaf.SliceKind.TheVariants.{I, P}
 use Rattle.h265_model.specs.declared.leaf.Leaf.{Leaf}
 use Rattle.h265_model.specs.Plain.{Size, Picture, ctus, below, joined}
 use Rattle.h265_model.specs.Bits.{bytes}
-use Rattle.h265_model.specs.Words.{Settings}
+use Rattle.h265_model.specs.Settings.{Settings}
 use Rattle.h265_model.specs.Raster.{Raster, coded_picture}
 use Rattle.h265_model.specs.NalUnits.{escape, start_code, stream_bytes}
 use Rattle.h265_model.specs.ParamSets.{param_units}

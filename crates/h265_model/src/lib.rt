@@ -1,25 +1,23 @@
-//! The definitions of a lossless H.265 screen recorder, and the plain types that its crates share.
+//! The definitions of H.265 as far as lossless streams of pictures need them, and the plain types that the crates share.
 #![tactic(auto)]
 
-mod entry;
 mod extra;
+mod job;
 mod leaf;
-mod line;
 mod lists;
 mod memory;
 mod moves;
-mod refusal;
-mod told;
+mod rect;
+mod rgb;
 
-pub use entry::Entry;
 pub use extra::Extra;
+pub use job::Job;
 pub use leaf::{Kind, Leaf, SliceKind};
-pub use line::{Job, Line, Pixels, Rect, Rgb};
-pub use lists::{Bytes, History, Numbers};
+pub use lists::{Bytes, Numbers};
 pub use memory::NoMemory;
 pub use moves::{MoveKind, MoveLeaf, Vector};
-pub use refusal::{Cause, LimitKind};
-pub use told::Told;
+pub use rect::Rect;
+pub use rgb::Rgb;
 
 /// How a bin is coded (9.3.4.3).
 #[derive(Clone, Copy, Debug, PartialEq, Eq)]

@@ -1,7 +1,7 @@
 -- What is said of a script.
 use Rattle.std.specs.Prelude.{◌≡◌, List, length, Result, Ok, Err}
-use Rattle.h265_model.specs.declared.line.Line.{Line}
-use Rattle.h265_model.specs.Script as script
+use Rattle.recorder_model.specs.declared.line.Line.{Line}
+use Rattle.recorder_model.specs.Script as script
 use Rattle.judge.specs.declared.verdict.Verdict.{Verdict}
 use Rattle.judge.specs.declared.verdict.Verdict.TheVariants.{Read, Bad}
 

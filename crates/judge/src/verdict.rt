@@ -1,11 +1,11 @@
 //! What is said of one script.
 ghost use Rattle.std.specs.Prelude.{ℕ, ◌≡◌, List, Ok};
-ghost use Rattle.h265_model.specs.Script.{script_of};
+ghost use Rattle.recorder_model.specs.Script.{script_of};
 ghost use Rattle.hex.specs.Hex.{decode_of};
 ghost use Rattle.judge.specs.Verdicts.{IsVerdict};
 
-use h265_model::Cause;
 use paint_script::{ScriptError, read_script, write_script};
+use recorder_model::Cause;
 use std::alloc::Global;
 use std::fmt::{self, Display, Formatter};
 

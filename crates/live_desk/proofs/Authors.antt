@@ -5,11 +5,11 @@ use Rattle.std.specs.List.{range_with_len}
 use Rattle.std.proofs.lemmas.Bool.{ne_eqb}
 use Rattle.std.proofs.lemmas.List.Sums.{sum_by-cons}
 use Rattle.std.proofs.lemmas.List.FromFn.{length-range_with_len}
-use Rattle.h265_model.specs.declared.entry.Entry.{Entry}
-use Rattle.h265_model.specs.declared.entry.Entry.TheVariants.{Line, Take}
-use Rattle.h265_model.specs.declared.line.Line as line
-use Rattle.h265_model.specs.Turn.{author, entries_by}
-use Rattle.h265_model.specs.Histories.{IsLawful, indexes_of, take_numbers, takes}
+use Rattle.recorder_model.specs.declared.entry.Entry.{Entry}
+use Rattle.recorder_model.specs.declared.entry.Entry.TheVariants.{Line, Take}
+use Rattle.recorder_model.specs.declared.line.Line as line
+use Rattle.recorder_model.specs.Turn.{author, entries_by}
+use Rattle.recorder_model.specs.Histories.{IsLawful, indexes_of, take_numbers, takes}
 use Rattle.desk_state.proofs.Totals.{IsWithin, rest_within, all_within}
 
 by_one : (passes a : ℕ) (e : Entry) (h : List Entry) → entries_by passes a (e ∷ h) ≡ (if author passes e == a then 1 else 0) + entries_by passes a h

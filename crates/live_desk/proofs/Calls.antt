@@ -1,14 +1,14 @@
 -- What the desk theorem says of each call, from its turn.
 use Rattle.std.proofs.Common.{◌≡◌, ℕ, ◌+◌, ◌-◌, ◌<◌, Bool, true, false, List, [], ◌∷◌, ◌++◌, length, Some, refl, sym, ap, subst, ◌∙◌, arith}
 use Rattle.atomic_table.specs.Seated.{TableId}
-use Rattle.h265_model.specs.declared.entry.Entry.{Entry}
-use Rattle.h265_model.specs.declared.entry.Entry.TheVariants as entry
-use Rattle.h265_model.specs.Script.{is_cut}
-use Rattle.h265_model.specs.Setting.{Setting}
-use Rattle.h265_model.specs.Turn.{State, entries_by}
-use Rattle.h265_model.specs.Raster.{accepted_line}
-use Rattle.h265_model.specs.Desk.{job_of}
-use Rattle.h265_model.specs.Histories.{IsLawful, indexes_of, cuts, takes}
+use Rattle.recorder_model.specs.declared.entry.Entry.{Entry}
+use Rattle.recorder_model.specs.declared.entry.Entry.TheVariants as entry
+use Rattle.recorder_model.specs.Script.{is_cut}
+use Rattle.recorder_model.specs.Setting.{Setting}
+use Rattle.recorder_model.specs.Turn.{State, entries_by}
+use Rattle.recorder_model.specs.Painting.{accepted_line}
+use Rattle.recorder_model.specs.Desk.{job_of}
+use Rattle.recorder_model.specs.Histories.{IsLawful, indexes_of, cuts, takes}
 use Rattle.turn_lock.specs.Turns as turns
 use Rattle.turn_lock.specs.Turns.{HasJoined, Owns, made_by, one_more, gives_back, gives_entry}
 use Rattle.turn_lock.specs.Standing.{Standing}

@@ -3,9 +3,9 @@ use Rattle.std.proofs.Common.{◌≡◌, ℕ, zero, suc, ◌+◌, ◌<◌, false
 use Rattle.std.specs.Prelude.{slice_get, slice_index}
 use Rattle.std.proofs.lemmas.Bool.{cases_lt}
 use Rattle.std.proofs.lemmas.List.{take_more, map-append, length-map, get_or-map}
-use Rattle.h265_model.specs.declared.line.Line.{Line}
+use Rattle.recorder_model.specs.declared.line.Line.{Line}
 use Rattle.atomic_table.specs.Seated.{TableId}
-use Rattle.h265_model.specs.Setting.{Setting}
+use Rattle.recorder_model.specs.Setting.{Setting}
 use Rattle.turn_lock.specs.Turns.{fresh_view}
 use Rattle.turn_lock.specs.Standing.{Standing, standing, IsHandedOut}
 use Rattle.turn_lock.proofs.Histories.{made_by-here}

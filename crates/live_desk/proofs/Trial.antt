@@ -4,11 +4,11 @@ use Rattle.std.specs.Prelude.{slice_get, option_to_list}
 use Rattle.std.proofs.lemmas.Option.{same_Some, slice_get_within}
 use Rattle.std.specs.Prelude.{count_by}
 use Rattle.std.proofs.lemmas.List.Sums.{sum_by_push, count_by-le-length}
-use Rattle.h265_model.specs.declared.line.Line.{Line}
-use Rattle.h265_model.specs.Script.{is_cut}
+use Rattle.recorder_model.specs.declared.line.Line.{Line}
+use Rattle.recorder_model.specs.Script.{is_cut}
 use Rattle.desk_state.specs.Standing.{most_entries}
 use Rattle.atomic_table.specs.Seated.{TableId}
-use Rattle.h265_model.specs.Setting.{Setting}
+use Rattle.recorder_model.specs.Setting.{Setting}
 use Rattle.turn_lock.specs.Standing.{Standing}
 use Rattle.turn_lock.specs.Turns.{IsBusy}
 use Rattle.turn_lock.specs.declared.knowledge.Knowledge.{Knowledge}

@@ -1,10 +1,10 @@
 -- From the clauses of a turn to what a pass knows after it.
 use Rattle.std.proofs.Common.{◌≡◌, ℕ, ◌+◌, ◌<◌, Bool, true, false, ◌||◌, ◌&&◌, not, List, [], ◌∷◌, ◌++◌, Some, refl, sym, ap, subst, ◌∙◌, arith}
 use Rattle.std.proofs.lemmas.List.{append-nil}
-use Rattle.h265_model.specs.declared.entry.Entry.{Entry}
-use Rattle.h265_model.specs.Setting.{Setting}
-use Rattle.h265_model.specs.Turn.{State, author, entries_by}
-use Rattle.h265_model.specs.Histories.{script_length}
+use Rattle.recorder_model.specs.declared.entry.Entry.{Entry}
+use Rattle.recorder_model.specs.Setting.{Setting}
+use Rattle.recorder_model.specs.Turn.{State, author, entries_by}
+use Rattle.recorder_model.specs.Histories.{script_length}
 use Rattle.turn_lock.specs.Turns.{Begins, HasEntered, HasWaited, IsSameButWords, Owns, finds, made_by, one_more, gives_back, gives_entry}
 use Rattle.turn_lock.specs.declared.knowledge.Knowledge.{Knowledge}
 use Rattle.turn_lock.proofs.Histories.{made_by-here}

@@ -2,14 +2,14 @@
 use Rattle.std.specs.Prelude.{◌≡◌, ℕ, ◌+◌, ◌<◌, List, [], ◌∷◌, ◌++◌, length, Bool, true, false, Some, slice_get}
 use Rattle.std.specs.List.{range_with_len}
 use Rattle.atomic_table.specs.Seated.{TableId}
-use Rattle.h265_model.specs.declared.entry.Entry.{Entry}
-use Rattle.h265_model.specs.declared.entry.Entry.TheVariants as entry
-use Rattle.h265_model.specs.declared.line.Job.{Job}
-use Rattle.h265_model.specs.Script.{is_cut}
-use Rattle.h265_model.specs.Setting.{Setting}
-use Rattle.h265_model.specs.Raster.{accepted_line}
-use Rattle.h265_model.specs.Histories.{IsLawful, indexes_of, cuts, takes}
-use Rattle.h265_model.specs.Desk.{job_of}
+use Rattle.recorder_model.specs.declared.entry.Entry.{Entry}
+use Rattle.recorder_model.specs.declared.entry.Entry.TheVariants as entry
+use Rattle.h265_model.specs.declared.job.Job.{Job}
+use Rattle.recorder_model.specs.Script.{is_cut}
+use Rattle.recorder_model.specs.Setting.{Setting}
+use Rattle.recorder_model.specs.Painting.{accepted_line}
+use Rattle.recorder_model.specs.Histories.{IsLawful, indexes_of, cuts, takes}
+use Rattle.recorder_model.specs.Desk.{job_of}
 use Rattle.turn_lock.specs.Turns.{Begins, IsBusy, made_by, one_more}
 use Rattle.turn_lock.specs.Standing.{Standing}
 use Rattle.live_desk.specs.Passes.{Client, fresh_client, fresh_recorder}

@@ -1,10 +1,10 @@
 -- A pass that holds the turn, and what it gives back.
 use Rattle.std.specs.Prelude.{◌≡◌, ◌<◌, ℕ, ◌∷◌, ◌++◌, [], Bool, true, false, length}
 use Rattle.atomic_table.specs.Seated.{TableId}
-use Rattle.h265_model.specs.declared.entry.Entry.TheVariants as entry
-use Rattle.h265_model.specs.Turn.{State}
-use Rattle.h265_model.specs.Histories.{IsLawful, cuts, takes}
-use Rattle.h265_model.specs.Desk.{job_of}
+use Rattle.recorder_model.specs.declared.entry.Entry.TheVariants as entry
+use Rattle.recorder_model.specs.Turn.{State}
+use Rattle.recorder_model.specs.Histories.{IsLawful, cuts, takes}
+use Rattle.recorder_model.specs.Desk.{job_of}
 use Rattle.turn_lock.specs.Standing.{Standing}
 use Rattle.turn_lock.specs.Turns.{Owns, gives_back, gives_entry}
 use Rattle.turn_lock.specs.declared.knowledge.Knowledge.{Knowledge}

@@ -1,6 +1,6 @@
 -- The passes of a new desk.
 use Rattle.std.specs.Prelude.{◌≡◌, ℕ, ◌<◌, List, length, Some, slice_get, slice_index, slice_index_or}
-use Rattle.h265_model.specs.Histories.{script_length}
+use Rattle.recorder_model.specs.Histories.{script_length}
 use Rattle.turn_lock.specs.Turns.{fresh_view}
 use Rattle.turn_lock.specs.Standing.{Standing}
 use Rattle.live_desk.specs.Passes.{Client, passes_of, fresh_client}

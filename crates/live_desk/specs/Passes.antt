@@ -1,8 +1,8 @@
 -- Passes as contracts see them.
 use Rattle.std.specs.Prelude.{◌≡◌, ℕ, ◌+◌, ◌<◌, ◌≤◌, [], ◌∷◌, length, Bool, false}
 use Rattle.atomic_table.specs.Seated.{TableId}
-use Rattle.h265_model.specs.Setting.{Setting}
-use Rattle.h265_model.specs.Histories.{script_length}
+use Rattle.recorder_model.specs.Setting.{Setting}
+use Rattle.recorder_model.specs.Histories.{script_length}
 use Rattle.turn_lock.specs.Turns.{Owns, fresh_view}
 use Rattle.turn_lock.specs.Standing.{Standing, standing}
 use Rattle.turn_lock.specs.declared.knowledge.Knowledge.{Knowledge}

@@ -1,7 +1,7 @@
 -- What a pass knows after one turn.
 use Rattle.std.specs.Prelude.{◌≡◌, ◌+◌, List, ◌++◌, true}
-use Rattle.h265_model.specs.declared.entry.Entry.{Entry}
-use Rattle.h265_model.specs.Turn.{State}
+use Rattle.recorder_model.specs.declared.entry.Entry.{Entry}
+use Rattle.recorder_model.specs.Turn.{State}
 use Rattle.turn_lock.specs.Turns.{Begins, OwnExact, IsSameButWords, holding}
 use Rattle.turn_lock.specs.declared.knowledge.Knowledge.{Knowledge}
 

@@ -4,8 +4,9 @@ ghost use Rattle.paint_script.specs.Spellable.{IsSpellable};
 ghost use Rattle.desk_state.specs.Standing.{most_entries};
 
 use crate::{Accepted, Desk, Entry, NoMemory, PlayError, Scripts, Size, Taken, TryPlayError};
-use h265_model::{Line, Rect, Rgb};
+use h265_model::{Rect, Rgb};
 use paint_script::Script;
+use recorder_model::Line;
 use std::alloc::Global;
 use std::test::Fail;
 

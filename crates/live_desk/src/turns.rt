@@ -1,9 +1,9 @@
 // One turn of a pass that holds it: what it does with the state, and the turn given back.
 ghost use Rattle.std.specs.Prelude.{◌≡◌, ◌+◌, ◌∷◌, ◌++◌, [], true, length, IfOk, OnErr};
-ghost use Rattle.h265_model.specs.declared.entry.Entry.TheVariants as entry;
-ghost use Rattle.h265_model.specs.Turn.{State};
-ghost use Rattle.h265_model.specs.Script.{is_cut};
-ghost use Rattle.h265_model.specs.Histories.{IsLawful};
+ghost use Rattle.recorder_model.specs.declared.entry.Entry.TheVariants as entry;
+ghost use Rattle.recorder_model.specs.Turn.{State};
+ghost use Rattle.recorder_model.specs.Script.{is_cut};
+ghost use Rattle.recorder_model.specs.Histories.{IsLawful};
 ghost use Rattle.desk_state.specs.Standing.{IsNext, next_line};
 ghost use Rattle.turn_lock.specs.Turns.{Owns, gives_back, gives_entry};
 ghost use Rattle.live_desk.specs.Held.{IsHolder, IsTaker, HasGiven};

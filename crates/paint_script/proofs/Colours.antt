@@ -3,8 +3,8 @@ use Rattle.std.proofs.Common.{◌≡◌, ℕ, ◌+◌, ◌*◌, ◌≤◌, List,
 use Rattle.std.proofs.lemmas.Bool.{cond-true, cond-false, eq-eqb, ne_eqb}
 use Rattle.std.proofs.lemmas.List.{drop_all, append_assoc, append-nil, length-drop, drop-drop}
 use Rattle.h265_model.specs.Bits.{◌>>=◌}
-use Rattle.h265_model.specs.Script.{byte_at, colours, n_colours}
-use Rattle.h265_model.specs.declared.line.Rgb.{Rgb}
+use Rattle.recorder_model.specs.Script.{byte_at, colours, n_colours}
+use Rattle.h265_model.specs.declared.rgb.Rgb.{Rgb}
 use Rattle.paint_script.specs.Paint.{colour_of}
 
 -- these colours before those that are read of the rest

@@ -2,8 +2,8 @@
 use Rattle.std.proofs.Common.{◌≡◌, ℕ, true, false, ◌==◌, List, ◌∷◌, ap, Err}
 use Rattle.std.specs.Prelude.{codes, bytes_eq}
 use Rattle.std.specs.List.{slice_split}
-use Rattle.h265_model.specs.Script.{line_of, words_line, paint_of, fill_of, blit_of, cut_of}
-use Rattle.h265_model.specs.declared.refusal.Cause.TheVariants.{UnknownCommand}
+use Rattle.recorder_model.specs.Script.{line_of, words_line, paint_of, fill_of, blit_of, cut_of}
+use Rattle.recorder_model.specs.declared.refusal.Cause.TheVariants.{UnknownCommand}
 
 pub line_of-words : (text first : List ℕ) (others : List (List ℕ)) → slice_split (λ c. c == 32) text ≡ first ∷ others → line_of text ≡ words_line (first ∷ others)
 unfolding line_of

@@ -5,7 +5,7 @@ use Rattle.std.proofs.lemmas.Bool.{and_parts, leb-true}
 use Rattle.std.proofs.lemmas.Bool.Decides.{nat_tests}
 use Rattle.std.specs.Char.{digit_value}
 use Rattle.std.specs.Str.Parse.{digits_value, digits_value_after}
-use Rattle.h265_model.specs.Script.{all_digits, is_numeral, number_up_to}
+use Rattle.recorder_model.specs.Script.{all_digits, is_numeral, number_up_to}
 
 pub all_digits-drop : (t : List ℕ) (i : ℕ) → i < length t → all_digits (drop i t) ≡ (nat_le 48 (get_or t i 0) && nat_le (get_or t i 0) 57 && all_digits (drop (i + 1) t))
 all_digits-drop t i h = at_drop_more all_digits t i 0 h

@@ -13,11 +13,12 @@ use Rattle.std.specs.Option.{option_copied, is_some}
 use Rattle.std.proofs.lemmas.List.Elements.{All-nil, All-cons, All-head, All-tail, All-append, All-weaker, All-from_recursion}
 use Rattle.std.proofs.lemmas.List.Splits.{slice_split_at, slice_split_none}
 use Rattle.std.proofs.lemmas.Bool.{cond-true, cond-false, ne_eqb, le-leb, lt-leb, lt-ltb, le-ltb, and_from, and_right, cases_lt, or_from}
-use Rattle.h265_model.specs.Script.{most_number, most_pixels, hex_digit, hex_value, byte_at, colour_text, spaced, rect_text, line_text, script_text, all_digits, is_numeral, number_up_to, colours, n_colours, rect_of, fill_of, blit_of, line_of, pieces_script, script_of, at_line, ◌>>-◌}
-use Rattle.h265_model.specs.declared.line.Rect.{Rect}
-use Rattle.h265_model.specs.declared.line.Rgb.{Rgb}
-use Rattle.h265_model.specs.declared.line.Line.{Line}
-use Rattle.h265_model.specs.declared.line.Line.TheVariants.{Fill, Blit, Cut}
+use Rattle.recorder_model.specs.Script.{most_number, most_pixels, hex_digit, hex_value, byte_at, colour_text, spaced, rect_text, line_text, script_text, all_digits, is_numeral, number_up_to, colours, n_colours, rect_of, fill_of, blit_of, line_of, pieces_script, script_of, at_line}
+use Rattle.h265_model.specs.Bits.{◌>>-◌}
+use Rattle.h265_model.specs.declared.rect.Rect.{Rect}
+use Rattle.h265_model.specs.declared.rgb.Rgb.{Rgb}
+use Rattle.recorder_model.specs.declared.line.Line.{Line}
+use Rattle.recorder_model.specs.declared.line.Line.TheVariants.{Fill, Blit, Cut}
 use Rattle.paint_script.specs.Spellable.{IsSpellableRect, IsSpellableColour, AreSpellablePixels, IsSpellable, AreSpellable}
 use Rattle.paint_script.specs.Laws.{EachScriptIsReadBack}
 use Rattle.paint_script.proofs.Numbers.{number_up_to-numeral}

@@ -2,10 +2,11 @@
 use Rattle.std.proofs.Common.{◌≡◌, ℕ, ◌+◌, ◌==◌, List, [], ◌∷◌, ◌++◌, length, refl, sym, ap, ◌∙◌, Result, Ok, Err, arith, ◌<◌}
 use Rattle.std.proofs.lemmas.List.{append_assoc, append-nil, length_push, nil_from_length}
 use Rattle.std.specs.List.{slice_split}
-use Rattle.h265_model.specs.declared.line.Line.{Line}
-use Rattle.h265_model.specs.declared.refusal.Cause.{Cause}
-use Rattle.h265_model.specs.declared.refusal.Cause.TheVariants.{NoLineFeed}
-use Rattle.h265_model.specs.Script.{BadLine, line_of, pieces_script, script_of, at_line, ◌>>-◌}
+use Rattle.recorder_model.specs.declared.line.Line.{Line}
+use Rattle.recorder_model.specs.declared.refusal.Cause.{Cause}
+use Rattle.recorder_model.specs.declared.refusal.Cause.TheVariants.{NoLineFeed}
+use Rattle.recorder_model.specs.Script.{BadLine, line_of, pieces_script, script_of, at_line}
+use Rattle.h265_model.specs.Bits.{◌>>-◌}
 use Rattle.paint_script.proofs.Splits.{HasFirst, split-first}
 
 -- these lines before those that are read of the rest

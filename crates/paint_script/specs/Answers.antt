@@ -1,6 +1,6 @@
 -- How the reader's answers stand to the definitions.
 use Rattle.std.specs.Prelude.{◌≡◌, Result, Ok, Err}
-use Rattle.h265_model.specs.declared.refusal.Cause.{Cause}
+use Rattle.recorder_model.specs.declared.refusal.Cause.{Cause}
 use Rattle.paint_script.specs.declared.line.LineError.{LineError}
 use Rattle.paint_script.specs.declared.line.LineError.TheVariants.{Bad, NoMemory}
 

@@ -1,6 +1,6 @@
 -- Why a script isn't added to others.
 use Rattle.std.specs.Prelude.{List, Result, Ok, Err}
-use Rattle.h265_model.specs.declared.line.Line.{Line}
+use Rattle.recorder_model.specs.declared.line.Line.{Line}
 use Rattle.paint_script.specs.declared.scripts.AddError.{AddError}
 use Rattle.paint_script.specs.declared.scripts.AddError.TheVariants.{Full, NoMemory}
 

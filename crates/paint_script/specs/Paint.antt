@@ -2,12 +2,13 @@
 use Rattle.std.specs.Prelude.{ℕ, Bool, true, false, not, ◌||◌, ◌==◌, List, [], ◌∷◌, Option, Some, None, Result, Ok, slice_index}
 use Rattle.std.specs.Borrow.{Bor}
 use Rattle.std.specs.List.{slice_split}
-use Rattle.h265_model.specs.declared.refusal.Cause.{Cause}
-use Rattle.h265_model.specs.declared.refusal.Cause.TheVariants.{BadNumber, ZeroSize}
-use Rattle.h265_model.specs.declared.line.Rect.{Rect}
+use Rattle.recorder_model.specs.declared.refusal.Cause.{Cause}
+use Rattle.recorder_model.specs.declared.refusal.Cause.TheVariants.{BadNumber, ZeroSize}
+use Rattle.h265_model.specs.declared.rect.Rect.{Rect}
 use Rattle.h265_model.specs.Bits.{◌>>=◌}
-use Rattle.h265_model.specs.Script.{byte_at, rect_of, or_cause, check, ◌>>-◌}
-use Rattle.h265_model.specs.declared.line.Rgb.{Rgb}
+use Rattle.recorder_model.specs.Script.{byte_at, rect_of, or_cause, check}
+use Rattle.h265_model.specs.Bits.{◌>>-◌}
+use Rattle.h265_model.specs.declared.rgb.Rgb.{Rgb}
 
 -- the colour that the first six digits spell
 abbrev pub colour_of : List ℕ → Option Rgb

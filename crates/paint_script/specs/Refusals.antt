@@ -1,7 +1,7 @@
 -- How a script is refused.
 use Rattle.std.specs.Prelude.{◌≡◌, List, Result, Err}
-use Rattle.h265_model.specs.declared.line.Line.{Line}
-use Rattle.h265_model.specs.Script as script
+use Rattle.recorder_model.specs.declared.line.Line.{Line}
+use Rattle.recorder_model.specs.Script as script
 use Rattle.paint_script.specs.declared.read.ScriptError.{ScriptError}
 use Rattle.paint_script.specs.declared.read.ScriptError.TheVariants.{BadLine, NoMemory}
 

@@ -1,9 +1,9 @@
 -- Scripts in memory.
 use Rattle.std.specs.Prelude.{◌≡◌, ◌+◌, ◌-◌, ◌<◌, ◌≤◌, ◌^◌, ℕ, List, length, map, count_by, slice_index_or, ◌==◌, if◌then◌else◌}
 use Rattle.std.specs.List.{All}
-use Rattle.h265_model.specs.Script.{is_cut}
-use Rattle.h265_model.specs.declared.line.Line.{Line}
-use Rattle.h265_model.specs.declared.line.Line.TheVariants.{Cut}
+use Rattle.recorder_model.specs.Script.{is_cut}
+use Rattle.recorder_model.specs.declared.line.Line.{Line}
+use Rattle.recorder_model.specs.declared.line.Line.TheVariants.{Cut}
 use Rattle.paint_script.specs.Spellable.{AreSpellable}
 use Rattle.paint_script.specs.declared.script.Script.TheInside.{Inside}
 

@@ -1,7 +1,7 @@
 //! Colours in hexadecimal digits.
 ghost use Rattle.std.specs.Prelude.{◌≡◌, ◌<◌, length};
 ghost use Rattle.std.specs.Option.{IfSome};
-ghost use Rattle.h265_model.specs.Script as script;
+ghost use Rattle.recorder_model.specs.Script as script;
 ghost use Rattle.paint_script.specs.Paint.{colour_of};
 ghost use Rattle.paint_script.specs.Spellable.{IsSpellableColour};
 

@@ -2,7 +2,7 @@
 ghost use Rattle.std.specs.Prelude.{◌≡◌, ◌∷◌, [], ◌≤◌, ◌==◌, false, length, IfOk, MatchResult};
 ghost use Rattle.std.specs.Option.{IfSome, MatchOption};
 ghost use Rattle.std.specs.List.{All, slice_split};
-ghost use Rattle.h265_model.specs.Script as script;
+ghost use Rattle.recorder_model.specs.Script as script;
 ghost use Rattle.paint_script.specs.Answers.{Answers};
 ghost use Rattle.paint_script.specs.Paint.{drawn_rect, has_paint_words, pieces_after};
 ghost use Rattle.paint_script.specs.Spellable.{IsSpellable, IsSpellableRect, IsSpellableColour};
@@ -10,7 +10,8 @@ ghost use Rattle.paint_script.specs.Spellable.{IsSpellable, IsSpellableRect, IsS
 use crate::colour::{COLOUR_DIGITS, colour_of};
 use crate::number::number_up_to;
 use crate::split::split_once;
-use h265_model::{Cause, Line, Pixels, Rect, Rgb};
+use h265_model::{Rect, Rgb};
+use recorder_model::{Cause, Line, Pixels};
 use std::alloc::{AllocError, AllocFailed, Global};
 
 /// The largest number of a script.

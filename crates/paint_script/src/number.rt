@@ -2,7 +2,7 @@
 ghost use Rattle.std.specs.Prelude.{◌≡◌, ◌≤◌, true, nat_le, if◌then◌else◌};
 ghost use Rattle.std.specs.Option.{IfSome};
 ghost use Rattle.std.specs.Str.Parse.{digits_value};
-ghost use Rattle.h265_model.specs.Script as script;
+ghost use Rattle.recorder_model.specs.Script as script;
 
 /// The number that a word spells in decimal digits, without a leading zero. `None` exactly where the word isn't such a
 /// number, or is one above `most`.

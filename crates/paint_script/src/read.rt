@@ -1,12 +1,13 @@
 //! Reading a script.
 ghost use Rattle.std.specs.Prelude.{◌≡◌, ◌==◌, ◌<◌, ◌^◌, length, count_by, IfOk, IfErr};
-ghost use Rattle.h265_model.specs.Script.{script_of};
+ghost use Rattle.recorder_model.specs.Script.{script_of};
 ghost use Rattle.paint_script.specs.Refusals.{IsRefusal};
 
 use crate::line::{LineError, read_line};
 use crate::script::Script;
 use crate::split::split_once;
-use h265_model::{Cause, NoMemory};
+use h265_model::NoMemory;
+use recorder_model::Cause;
 use std::alloc::Global;
 use thiserror::Error;
 

@@ -2,10 +2,11 @@
 ghost use Rattle.std.specs.Prelude.{◌≡◌, ◌<◌, ◌-◌, ◌^◌, ◌∷◌, [], ◌++◌, length, count_by, OnOk, OnErr, IfOk};
 ghost use Rattle.std.specs.Option.{option_copied};
 ghost use Rattle.std.specs.List.{slice_get};
-ghost use Rattle.h265_model.specs.Script.{is_cut};
+ghost use Rattle.recorder_model.specs.Script.{is_cut};
 ghost use Rattle.paint_script.specs.Spellable.{IsSpellable, AreSpellable};
 
-use h265_model::{Line, NoMemory};
+use h265_model::NoMemory;
+use recorder_model::Line;
 use std::alloc::Global;
 use std::marker::Model;
 
@@ -25,7 +26,7 @@ pub struct Script {
 
 impl Model for Script {
     ghost use Rattle.std.specs.Prelude.{List};
-    ghost use Rattle.h265_model.specs.declared.line.Line.{Line};
+    ghost use Rattle.recorder_model.specs.declared.line.Line.{Line};
 
     ghost Value = { List Line };
 

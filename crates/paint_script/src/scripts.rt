@@ -32,7 +32,7 @@ pub enum AddError {
 
 impl Model for Scripts {
     ghost use Rattle.std.specs.Prelude.{List, length, ◌≤◌};
-    ghost use Rattle.h265_model.specs.declared.line.Line.{Line};
+    ghost use Rattle.recorder_model.specs.declared.line.Line.{Line};
 
     ghost Value = { List (List Line) };
 

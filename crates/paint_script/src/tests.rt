@@ -3,7 +3,8 @@ use crate::{
     AddError, Script, ScriptError, Scripts, each_script_is_read_back, number_up_to, read_script,
     write_script,
 };
-use h265_model::{Cause, Line, Pixels, Rect, Rgb};
+use h265_model::{Rect, Rgb};
+use recorder_model::{Cause, Line, Pixels};
 use std::process::Abort;
 use std::test::Fail;
 

@@ -1,10 +1,11 @@
 //! Writing a script.
 ghost use Rattle.std.specs.Prelude.{◌≡◌, ◌<◌, ◌≤◌, ◌∷◌, [], ◌++◌, flat_map, IfOk, OnOk};
-ghost use Rattle.h265_model.specs.Script as grammar;
+ghost use Rattle.recorder_model.specs.Script as grammar;
 ghost use Rattle.paint_script.specs.Spellable.{IsSpellable, IsSpellableRect};
 
 use crate::script::Script;
-use h265_model::{Line, NoMemory, Rect, Rgb};
+use h265_model::{NoMemory, Rect, Rgb};
+use recorder_model::Line;
 use std::alloc::Global;
 
 // The most digits of a number.

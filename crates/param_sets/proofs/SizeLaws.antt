@@ -3,9 +3,9 @@ use Rattle.std.proofs.Common.{◌≡◌, ℕ, ◌+◌, ◌-◌, ◌*◌, ◌<◌
 use Rattle.std.specs.Prelude.{◌==◌, ◌&&◌, nat_le, nat_lt, if◌then◌else◌, MatchResult, ok_or}
 use Rattle.std.specs.Option.{SomeIff}
 use Rattle.std.proofs.lemmas.Bool.Decides.{nat_tests}
-use Rattle.h265_model.specs.Script.{◌>>-◌}
+use Rattle.h265_model.specs.Bits.{◌>>-◌}
 use Rattle.h265_model.specs.Plain.{Size}
-use Rattle.h265_model.specs.Words.{is_size, most_area, most_side}
+use Rattle.h265_model.specs.Settings.{is_size, most_area, most_side}
 use Rattle.h265_model.specs.Bits.{read_u}
 use Rattle.h265_model.specs.Fields.{or_number}
 use Rattle.h265_model.specs.ParamSets.{is_coded_side, read_side, read_whole, windowed, read_window, read_size}

@@ -4,9 +4,9 @@ use Rattle.std.specs.Prelude.{Option, Some, None, IfSome, slice_index_or}
 use Rattle.std.specs.Arc.{arc_value}
 use Rattle.std.proofs.lemmas.Bool.{both_ways}
 use Rattle.std.proofs.lemmas.List.{get_or_default}
-use Rattle.h265_model.specs.declared.line.Job.{Job}
+use Rattle.h265_model.specs.declared.job.Job.{Job}
 use Rattle.h265_model.specs.Plain.{Size}
-use Rattle.h265_model.specs.Desk.{tile_count}
+use Rattle.h265_model.specs.Tiles.{tile_count}
 use Rattle.h265_model.specs.Raster.{planes}
 use Rattle.px_plane.specs.Planes.{Planes, planes_of, IsPicture, Stores}
 use Rattle.px_plane.specs.Tiles.{IsJobOf, laid}

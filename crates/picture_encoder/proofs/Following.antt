@@ -5,14 +5,14 @@ use Rattle.std.specs.List.{last_or}
 use Rattle.std.proofs.lemmas.Bool.{eqb-true}
 use Rattle.std.proofs.lemmas.List.{get_or_default}
 use Rattle.std.proofs.lemmas.Nat.{div-add-mod'}
-use Rattle.h265_model.specs.declared.line.Job.{Job}
+use Rattle.h265_model.specs.declared.job.Job.{Job}
 use Rattle.h265_model.specs.Plain.{Size, Picture, ctus, ctu_x, ctu_y}
-use Rattle.h265_model.specs.Raster.{Raster, raster, coded_picture}
-use Rattle.h265_model.specs.Words.{Settings}
+use Rattle.h265_model.specs.Raster.{Raster, black_raster, coded_picture}
+use Rattle.h265_model.specs.Settings.{Settings}
 use Rattle.h265_model.specs.NalUnits.{stream_bytes}
 use Rattle.h265_model.specs.ParamSets.{param_units}
 use Rattle.h265_model.specs.Stream.{is_idr, order_count, reference, row_codes, slice_piece, picture_piece, pieces, pieces_after}
-use Rattle.h265_laws.proofs.PlayLaws.{pieces-append}
+use Rattle.h265_laws.proofs.Prefixes.{pieces-append}
 use Rattle.px_plane.specs.Planes.{Planes, picture_of, Stores, Shows}
 use Rattle.px_plane.specs.Tiles.{tile_of, in_tile, laid_first, laid}
 use Rattle.px_plane.proofs.Shown.{shown_is_coded}
@@ -86,7 +86,7 @@ piece_is e planes before now last_size size stands shows =
     ∙ (ap (λ (p : Picture). piece_with e.settings (length before) (reference_of (is_idr e.settings.key (length before)) (picture_of e.last)) p)
     (shown_is_coded planes now shows ∙ ap (λ (s : Size). coded_picture s now) size)
     ∙ ap (λ (r : Option Picture). piece_with e.settings (length before) r (coded_picture e.settings.size now))
-    (reference_is e.settings.key e.settings.size e.last (raster e.settings.size []) before (last_size ∙ size) stands.last))
+    (reference_is e.settings.key e.settings.size e.last (black_raster e.settings.size) before (last_size ∙ size) stands.last))
 
 pub one_more : (e : Coded) (planes : Planes) (before : List Raster) (now : Raster) (piece : List ℕ) → e.last.size ≡ planes.size → planes.size ≡ e.settings.size → StandsFor e before → Shows planes now
     → piece ≡ piece_of e planes → pieces e.settings (before ++ now ∷ []) ≡ pieces e.settings before ++ piece ∷ []

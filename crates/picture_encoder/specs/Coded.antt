@@ -1,11 +1,11 @@
 -- An encoder, and the pictures that it has coded.
 use Rattle.std.specs.Prelude.{◌≡◌, ◌≤◌, ℕ, List, [], ◌∷◌, length, Option, Some, None, IfSome, IsNone}
 use Rattle.std.specs.Arc.{arc_value}
-use Rattle.h265_model.specs.declared.line.Job.{Job}
+use Rattle.h265_model.specs.declared.job.Job.{Job}
 use Rattle.h265_model.specs.Plain.{Size}
-use Rattle.h265_model.specs.Words.{Settings}
-use Rattle.h265_model.specs.Desk.{job_for}
-use Rattle.h265_model.specs.Raster.{Raster, raster, coded_picture, planes}
+use Rattle.h265_model.specs.Settings.{Settings}
+use Rattle.h265_model.specs.Tiles.{job_for}
+use Rattle.h265_model.specs.Raster.{Raster, black_raster, coded_picture, planes}
 use Rattle.px_plane.specs.Planes.{Planes, Shows, black, planes_of}
 use Rattle.px_plane.specs.Tiles.{DiffersOnlyIn, IsJobOf, laid}
 use Rattle.picture_encoder.specs.declared.before.Before.{Before}
@@ -46,7 +46,7 @@ last_of shown (picture ∷ pictures) = last_of picture pictures
 -- it has coded so many pictures, and the last of them is that of the list
 pub record StandsFor (encoder : Coded) (pictures : List Raster) : Type 0 where
   pub count : encoder.count ≡ length pictures
-  pub last : Shows encoder.last (last_of (raster encoder.settings.size []) pictures)
+  pub last : Shows encoder.last (last_of (black_raster encoder.settings.size) pictures)
 
 -- the job turns the picture before into this one: it has the samples of all tiles in which they differ
 pub record TurnsInto (job : Job) (before : Planes) (now : Raster) : Type 0 where

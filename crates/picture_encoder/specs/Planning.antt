@@ -6,7 +6,7 @@ use Rattle.h265_model.specs.declared.leaf.Leaf.{Leaf}
 use Rattle.h265_model.specs.declared.leaf.SliceKind.{SliceKind}
 use Rattle.h265_model.specs.Plain.{Size, Picture, ctus, below}
 use Rattle.h265_model.specs.Choice.{choice}
-use Rattle.h265_model.specs.Desk.{tile_count}
+use Rattle.h265_model.specs.Tiles.{tile_count}
 use Rattle.h265_model.specs.NalUnits.{escape}
 use Rattle.h265_model.specs.Slice.{row_code}
 use Rattle.h265_model.specs.Stream.{slice_kind, is_idr, order_count, row_codes, slice_piece}

@@ -2,7 +2,7 @@
 ghost use Rattle.std.specs.Prelude.{◌≡◌, List, Some, option_map, IfOk, IfSome};
 ghost use Rattle.std.specs.Arc.{arc_value};
 ghost use Rattle.h265_model.specs.Raster.{Raster, coded_picture};
-ghost use Rattle.h265_model.specs.Desk.{job_for};
+ghost use Rattle.h265_model.specs.Tiles.{job_for};
 ghost use Rattle.px_plane.specs.Planes.{IsPicture, Shows};
 ghost use Rattle.px_plane.specs.Tiles.{IsJobOf, DiffersOnlyIn};
 ghost use Rattle.picture_encoder.specs.Coded.{IsLaid};

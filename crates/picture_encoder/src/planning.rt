@@ -1,7 +1,7 @@
 //! Which coding units are coded of a picture.
 ghost use Rattle.std.specs.Prelude.{◌≡◌, ◌<◌, ◌≤◌, ◌+◌, ◌*◌, false, map, take, slice_index_or, IfOk, OnOk};
 ghost use Rattle.h265_model.specs.Plain.{ctus, below};
-ghost use Rattle.h265_model.specs.Desk.{tile_count};
+ghost use Rattle.h265_model.specs.Tiles.{tile_count};
 ghost use Rattle.row_coder.specs.Rows.{leaves_of};
 ghost use Rattle.picture_encoder.specs.Planning.{IsTask, is_idr_task, chosen, row_chosen, size_of_task, raised, most_ticks};
 

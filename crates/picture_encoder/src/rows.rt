@@ -3,7 +3,7 @@ ghost use Rattle.std.specs.Prelude.{◌≡◌, ◌<◌, ◌≤◌, ◌-◌, fals
 ghost use Rattle.std.specs.Arc.{arc_value};
 ghost use Rattle.std.specs.List.{All};
 ghost use Rattle.h265_model.specs.Plain.{ctus, below, IsPicture, AreBytes};
-ghost use Rattle.h265_model.specs.Words.{is_size};
+ghost use Rattle.h265_model.specs.Settings.{is_size};
 ghost use Rattle.px_plane.specs.Planes.{picture_of};
 ghost use Rattle.row_core.specs.Plans.{HaveWidth, rows_of};
 ghost use Rattle.row_coder.specs.Rows.{leaves_of, plan_of};

@@ -1,7 +1,7 @@
 //! The tiles of a picture that a job lists.
 ghost use Rattle.std.specs.Prelude.{◌≡◌, ◌<◌, ◌≤◌, length, IfOk};
 ghost use Rattle.std.specs.List.{All};
-ghost use Rattle.h265_model.specs.Desk.{tile_count};
+ghost use Rattle.h265_model.specs.Tiles.{tile_count};
 ghost use Rattle.picture_encoder.specs.Planning.{AreFlagged, raised};
 
 use h265_model::NoMemory;

@@ -3,7 +3,7 @@ use Rattle.std.specs.Prelude.{◌≡◌, ◌<◌, ◌≤◌, ℕ, ◌+◌, ◌*�
 use Rattle.std.specs.Option.{option_or}
 use Rattle.h265_model.specs.declared.leaf.Leaf.{Leaf}
 use Rattle.h265_model.specs.Plain.{Size, coded}
-use Rattle.h265_model.specs.Words.{is_size}
+use Rattle.h265_model.specs.Settings.{is_size}
 use Rattle.h265_model.specs.Tree.{leaf_at, is_skipped, mode_of, IsMode}
 use Rattle.pu_code.specs.declared.cell.Cell.{Cell}
 

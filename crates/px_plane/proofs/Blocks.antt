@@ -5,7 +5,7 @@ use Rattle.std.proofs.lemmas.Bool.{and_parts, and_from, eqb-true, eq-eqb, cases_
 use Rattle.std.proofs.lemmas.Nat.{div-add-mod', div_below, mul-le}
 use Rattle.std.proofs.lemmas.List.FromFn.{get_or-map-range_with_len}
 use Rattle.h265_model.specs.Plain.{Picture, place_values, below}
-use Rattle.h265_model.specs.declared.line.Rect.{Rect}
+use Rattle.h265_model.specs.declared.rect.Rect.{Rect}
 use Rattle.px_plane.specs.declared.compare.RowPart.{RowPart}
 use Rattle.px_plane.specs.Blocks.{same_at, same_places, compared, IsSameBlock, IsRowPart, IsFront, row_same}
 use Rattle.h265_model.proofs.Squares.{length_places, at_places}

@@ -1,15 +1,11 @@
 -- Painting, as the raster of one more line.
 use Rattle.std.proofs.Common.{◌≡◌, refl, sym, ◌∙◌, ap, ℕ, zero, suc, ◌+◌, ◌*◌, ◌<◌, Bool, true, false, List, [], ◌∷◌, ◌++◌, cond, length, get_or, arith}
 use Rattle.std.specs.Prelude.{◌&&◌, nat_lt}
-use Rattle.std.proofs.lemmas.List.Sums.{fold-append}
-use Rattle.h265_model.specs.Plain.{Size, Picture, coded}
-use Rattle.h265_model.specs.Lines.{black as unpainted}
-use Rattle.h265_model.specs.declared.line.Rect.{Rect}
-use Rattle.h265_model.specs.declared.line.Rgb.{Rgb}
-use Rattle.h265_model.specs.declared.line.Line.{Line}
-use Rattle.h265_model.specs.declared.line.Line.TheVariants.{Fill, Blit}
-use Rattle.h265_model.specs.Raster.{colour, raster, component, coded_picture, paints, repainted}
-use Rattle.px_plane.specs.Planes.{Planes, plane_of, picture_of, IsPicture, Stores, ShowsLines, covers, filled, blitted, pixel_at}
+use Rattle.h265_model.specs.Plain.{Size, Picture, coded, place_values}
+use Rattle.h265_model.specs.declared.rect.Rect.{Rect}
+use Rattle.h265_model.specs.declared.rgb.Rgb.{Rgb}
+use Rattle.h265_model.specs.Raster.{component, coded_picture, paints}
+use Rattle.px_plane.specs.Planes.{Planes, plane_of, picture_of, IsPicture, Stores, ShowsColours, covers, repainted}
 use Rattle.px_plane.specs.declared.plane.Sides.{Sides}
 use Rattle.px_plane.specs.Rows.{IsPut, IsPartOf, IsPutInto, is_in}
 use Rattle.px_plane.proofs.Shown.{picture_at, coded_at, stores_from_planes, planes_from_stores}
@@ -65,11 +61,7 @@ nothing_painted p r ink none = record {
   each = λ c x y h hx hy. ap (λ (t : Bool). cond t (component c (ink x y)) (picture_of p c x y)) (sym (none x y));
 }
 
--- ---- lines
-
-colour_more : (lines : List Line) (line : Line) (x y : ℕ) → colour (lines ++ line ∷ []) x y ≡ repainted x y (colour lines x y) line
-unfolding colour
-colour_more lines line x y = fold-append (repainted x y) unpainted lines (line ∷ [])
+-- ---- colours
 
 inked_is : (within paint : Bool) (c : ℕ) (ink before : Rgb)
     → cond (within && paint) (component c ink) (cond within (component c before) 0) ≡ cond within (component c (cond paint ink before)) 0
@@ -77,30 +69,20 @@ inked_is true true c ink before = refl
 inked_is true false c ink before = refl
 inked_is false paint c ink before = refl
 
--- a picture that is painted shows the raster of one more line
-pub inked_shows : (old new : Planes) (r : Rect) (ink : ℕ → ℕ → Rgb) (line : Line) (lines : List Line)
+-- a picture that is painted shows the colours after that
+pub inked_shows : (old new : Planes) (r : Rect) (ink before : ℕ → ℕ → Rgb)
     → new.size ≡ old.size → IsPicture new
-    → ((x y : ℕ) (before : Rgb) → repainted x y before line ≡ cond (paints r x y) (ink x y) before)
-    → Stores new (inked old r ink) → ShowsLines old lines → ShowsLines new (lines ++ line ∷ [])
-inked_shows old new r ink line lines same is line_is painted shown =
-    let was : Stores old (coded_picture old.size (raster old.size lines)) = stores_from_planes old (coded_picture old.size (raster old.size lines)) shown.stored in
+    → Stores new (inked old r ink) → ShowsColours old before → ShowsColours new (repainted r ink before)
+inked_shows old new r ink before same is painted shown =
+    let was : Stores old (coded_picture old.size (place_values old.size.w old.size.h before)) = stores_from_planes old (coded_picture old.size (place_values old.size.w old.size.h before)) shown.stored in
+    let after : ℕ → ℕ → Rgb = repainted r ink before in
     record {
-      stored = planes_from_stores new (coded_picture new.size (raster new.size (lines ++ line ∷ []))) is (record {
+      stored = planes_from_stores new (coded_picture new.size (place_values new.size.w new.size.h after)) is (record {
         each = λ c x y h hx hy.
             let within : Bool = nat_lt x old.size.w && nat_lt y old.size.h in
-            let before : Rgb = colour lines x y in
             painted.each c x y h hx hy
-            ∙ (ap (λ (s : ℕ). cond (covers old.size r x y) (component c (ink x y)) s) (was.each c x y h (rw (← same) hx) (rw (← same) hy) ∙ coded_at old.size lines c x y)
-            ∙ (inked_is within (paints r x y) c (ink x y) before
-            ∙ (ap (λ (v : Rgb). cond within (component c v) 0) (sym (colour_more lines line x y ∙ line_is x y before))
-            ∙ sym (ap (λ (size : _). coded_picture size (raster size (lines ++ line ∷ [])) c x y) same ∙ coded_at old.size (lines ++ line ∷ []) c x y))));
+            ∙ (ap (λ (s : ℕ). cond (covers old.size r x y) (component c (ink x y)) s) (was.each c x y h (rw (← same) hx) (rw (← same) hy) ∙ coded_at old.size before c x y)
+            ∙ (inked_is within (paints r x y) c (ink x y) (before x y)
+            ∙ sym (ap (λ (size : Size). coded_picture size (place_values size.w size.h after) c x y) same ∙ coded_at old.size after c x y)));
       });
     }
-
-pub fill_shows : (old new : Planes) (r : Rect) (ink : Rgb) (lines : List Line) → new.size ≡ old.size → IsPicture new
-    → Stores new (filled old r ink) → ShowsLines old lines → ShowsLines new (lines ++ Fill r ink ∷ [])
-fill_shows old new r ink lines same is painted shown = inked_shows old new r (λ x y. ink) (Fill r ink) lines same is (λ x y before. refl) painted shown
-
-pub blit_shows : (old new : Planes) (r : Rect) (pixels : List Rgb) (lines : List Line) → new.size ≡ old.size → IsPicture new
-    → Stores new (blitted old r pixels) → ShowsLines old lines → ShowsLines new (lines ++ Blit r pixels ∷ [])
-blit_shows old new r pixels lines same is painted shown = inked_shows old new r (pixel_at r pixels) (Blit r pixels) lines same is (λ x y before. refl) painted shown

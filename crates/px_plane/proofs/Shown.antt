@@ -5,11 +5,10 @@ use Rattle.std.proofs.lemmas.Bool.{ltb-true, lt-ltb, and_parts, and_from, both_w
 use Rattle.std.proofs.lemmas.Bool.Decides.{nat_tests}
 use Rattle.std.proofs.lemmas.List.{length-replicate}
 use Rattle.h265_model.specs.Plain.{Size, Picture, coded, place_values}
-use Rattle.h265_model.specs.Words.{is_size}
-use Rattle.h265_model.specs.Lines.{black as unpainted}
-use Rattle.h265_model.specs.declared.line.Line.{Line}
-use Rattle.h265_model.specs.Raster.{Raster, colour, raster, component, coded_picture, plane, planes, stored_picture}
-use Rattle.px_plane.specs.Planes.{Planes, plane_of, planes_of, picture_of, IsPicture, Stores, Shows, ShowsLines, black}
+use Rattle.h265_model.specs.Settings.{is_size}
+use Rattle.h265_model.specs.declared.rgb.Rgb.{Rgb}
+use Rattle.h265_model.specs.Raster.{Raster, black as unpainted, black_raster, component, coded_picture, plane, planes, stored_picture}
+use Rattle.px_plane.specs.Planes.{Planes, plane_of, planes_of, picture_of, IsPicture, Stores, Shows, black}
 use Rattle.h265_model.proofs.Squares.{at_places, places_are}
 
 -- ---- sizes
@@ -83,17 +82,17 @@ planes_from_stores p picture is s =
 
 -- ---- rasters
 
--- the samples of the raster of some lines
-pub coded_at : (size : Size) (lines : List Line) (c x y : ℕ)
-    → coded_picture size (raster size lines) c x y ≡ cond (nat_lt x size.w && nat_lt y size.h) (component c (colour lines x y)) 0
-unfolding coded_picture raster
-coded_at size lines c x y = go (nat_lt x size.w && nat_lt y size.h) refl
+-- the samples of the raster of some colours
+pub coded_at : (size : Size) (colours : ℕ → ℕ → Rgb) (c x y : ℕ)
+    → coded_picture size (place_values size.w size.h colours) c x y ≡ cond (nat_lt x size.w && nat_lt y size.h) (component c (colours x y)) 0
+unfolding coded_picture
+coded_at size colours c x y = go (nat_lt x size.w && nat_lt y size.h) refl
   where
     go : (b : Bool) → (nat_lt x size.w && nat_lt y size.h) ≡ b
-        → cond b (component c (get_or (place_values size.w size.h (colour lines)) (y * size.w + x) unpainted)) 0 ≡ cond b (component c (colour lines x y)) 0
+        → cond b (component c (get_or (place_values size.w size.h colours) (y * size.w + x) unpainted)) 0 ≡ cond b (component c (colours x y)) 0
     go true e =
         let t = and_parts (nat_lt x size.w) (nat_lt y size.h) e in
-        ap (component c) (at_places size.w size.h x y (colour lines) unpainted (ltb-true x size.w t.0) (ltb-true y size.h t.1))
+        ap (component c) (at_places size.w size.h x y colours unpainted (ltb-true x size.w t.0) (ltb-true y size.h t.1))
     go false e = refl
 
 -- a picture that shows a raster has the samples of the raster's coded picture, everywhere
@@ -157,9 +156,8 @@ black_whole size sized =
     let area : ℕ = coded size.w * coded size.h in
     record { sized = sized; g_long = length-replicate area zero_sample; b_long = length-replicate area zero_sample; r_long = length-replicate area zero_sample }
 
-black_coded : (size : Size) (c x y : ℕ) → coded_picture size (raster size []) c x y ≡ 0
-unfolding colour
-black_coded size c x y = coded_at size [] c x y ∙ go c (nat_lt x size.w && nat_lt y size.h)
+black_coded : (size : Size) (c x y : ℕ) → coded_picture size (black_raster size) c x y ≡ 0
+black_coded size c x y = coded_at size (λ x y. unpainted) c x y ∙ go c (nat_lt x size.w && nat_lt y size.h)
   where
     go : (c : ℕ) (b : Bool) → cond b (component c unpainted) 0 ≡ 0
     go zero true = refl
@@ -167,8 +165,8 @@ black_coded size c x y = coded_at size [] c x y ∙ go c (nat_lt x size.w && nat
     go (suc (suc c)) true = refl
     go c false = refl
 
-pub black_shows : (size : Size) → IsTrue (is_size size) → ShowsLines (black size) []
+pub black_shows : (size : Size) → IsTrue (is_size size) → Shows (black size) (black_raster size)
 black_shows size sized = record {
-  stored = planes_from_stores (black size) (coded_picture size (raster size [])) (black_whole size sized)
+  stored = planes_from_stores (black size) (coded_picture size (black_raster size)) (black_whole size sized)
       (record { each = λ c x y h hx hy. zeros_at size c x y hx hy ∙ sym (black_coded size c x y) });
 }

@@ -6,10 +6,10 @@ use Rattle.std.proofs.lemmas.List.FromFn.{get_or-range_with_len}
 use Rattle.std.proofs.lemmas.Bool.{eqb-true, eqb-false, eq-eqb, ne_eqb, cases_eq}
 use Rattle.std.proofs.lemmas.Bool.Decides.{nat_tests}
 use Rattle.std.proofs.lemmas.Nat.{div-add-mod', div_below, div-mul-add, mod-mul-add}
-use Rattle.h265_model.specs.declared.line.Job.{Job}
+use Rattle.h265_model.specs.declared.job.Job.{Job}
 use Rattle.h265_model.specs.Plain.{Size, Picture, coded, ctus, ctu_x, ctu_y, place_values, below}
 use Rattle.h265_model.specs.Raster.{Raster, coded_picture}
-use Rattle.h265_model.specs.Desk.{tile_count, tile_samples, job_for}
+use Rattle.h265_model.specs.Tiles.{tile_count, tile_samples, job_for}
 use Rattle.px_plane.specs.declared.plane.Sides.{Sides}
 use Rattle.px_plane.specs.Planes.{Planes, picture_of, IsPicture, Stores, Shows}
 use Rattle.px_plane.specs.Rows.{IsPutInto, is_in, sample_at}

@@ -1,7 +1,7 @@
 -- Blocks of two pictures, position by position.
 use Rattle.std.specs.Prelude.{◌≡◌, ◌<◌, ◌≤◌, length, ℕ, ◌+◌, Bool, true, false, ◌&&◌, List, [], ◌∷◌, ◌==◌, slice_index, if◌then◌else◌}
 use Rattle.h265_model.specs.Plain.{Picture, place_values}
-use Rattle.h265_model.specs.declared.line.Rect.{Rect}
+use Rattle.h265_model.specs.declared.rect.Rect.{Rect}
 use Rattle.px_plane.specs.declared.compare.RowPart.{RowPart}
 
 -- two pictures have the same three samples at a place

@@ -1,12 +1,11 @@
 -- A picture as it is stored, and what painting makes of it.
 use Rattle.std.specs.Prelude.{◌≡◌, ◌<◌, length, ℕ, zero, suc, ◌+◌, ◌*◌, ◌-◌, Bool, ◌&&◌, List, [], ◌∷◌, nat_lt, slice_index, slice_index_or, replicate, IsTrue, min, if◌then◌else◌}
-use Rattle.h265_model.specs.Plain.{Size, Picture, coded}
-use Rattle.h265_model.specs.Words.{is_size}
-use Rattle.h265_model.specs.Lines as lines
-use Rattle.h265_model.specs.Raster.{Raster, raster, component, coded_picture, planes, paints}
-use Rattle.h265_model.specs.declared.line.Rect.{Rect}
-use Rattle.h265_model.specs.declared.line.Rgb.{Rgb}
-use Rattle.h265_model.specs.declared.line.Line.{Line}
+use Rattle.h265_model.specs.Plain.{Size, Picture, coded, place_values}
+use Rattle.h265_model.specs.Settings.{is_size}
+use Rattle.h265_model.specs.Raster as rasters
+use Rattle.h265_model.specs.Raster.{Raster, component, coded_picture, planes, paints}
+use Rattle.h265_model.specs.declared.rect.Rect.{Rect}
+use Rattle.h265_model.specs.declared.rgb.Rgb.{Rgb}
 
 -- the size of a picture and its planes G, B and R, each in rows of the coded width from the top
 pub record Planes : Type 0 where
@@ -43,9 +42,9 @@ pub record Stores (p : Planes) (picture : Picture) : Type 0 where
 pub record Shows (p : Planes) (shown : Raster) : Type 0 where
   pub stored : planes_of p ≡ planes p.size (coded_picture p.size shown)
 
--- the picture shows what these lines paint
-abbrev pub ShowsLines : Planes → List Line → Type 0
-ShowsLines p lines = Shows p (raster p.size lines)
+-- the picture shows these colours, one for each place
+abbrev pub ShowsColours : Planes → (ℕ → ℕ → Rgb) → Type 0
+ShowsColours p colours = Shows p (place_values p.size.w p.size.h colours)
 
 -- a picture of zeros
 abbrev pub black : Size → Planes
@@ -63,11 +62,15 @@ filled p r colour c x y = if covers p.size r x y then component c colour else pi
 
 -- the pixel of a place in a rectangle, whose pixels stand in rows from the top
 abbrev pub pixel_at : Rect → List Rgb → ℕ → ℕ → Rgb
-pixel_at r pixels x y = slice_index_or pixels ((y - r.y) * r.w + (x - r.x)) lines.black
+pixel_at r pixels x y = slice_index_or pixels ((y - r.y) * r.w + (x - r.x)) rasters.black
 
 -- the samples after a rectangle is painted with pixels
 abbrev pub blitted : Planes → Rect → List Rgb → Picture
 blitted p r pixels c x y = if covers p.size r x y then component c (pixel_at r pixels x y) else picture_of p c x y
+
+-- the colour of each place after a rectangle is painted, in it by this function
+abbrev pub repainted : Rect → (ℕ → ℕ → Rgb) → (ℕ → ℕ → Rgb) → ℕ → ℕ → Rgb
+repainted r ink before x y = if paints r x y then ink x y else before x y
 
 -- the part of a rectangle that lies in the desktop
 abbrev pub clipped : Size → Rect → Rect

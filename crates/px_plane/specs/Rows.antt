@@ -1,7 +1,7 @@
 -- Parts of planes, and what a write to one leaves.
 use Rattle.std.specs.Prelude.{◌≡◌, ◌<◌, ◌≤◌, ℕ, ◌+◌, ◌*◌, ◌-◌, Bool, ◌&&◌, List, nat_le, nat_lt, slice_index, if◌then◌else◌}
 use Rattle.h265_model.specs.Plain.{Size, Picture, coded}
-use Rattle.h265_model.specs.declared.line.Rect.{Rect}
+use Rattle.h265_model.specs.declared.rect.Rect.{Rect}
 use Rattle.px_plane.specs.declared.plane.Sides.{Sides}
 use Rattle.px_plane.specs.Planes.{Planes, IsPicture, picture_of, covers}
 

@@ -1,9 +1,9 @@
 -- Tiles of 32 by 32 samples, and what laying the tiles of a job makes of a picture.
 use Rattle.std.specs.Prelude.{◌≡◌, ◌<◌, ◌≤◌, length, ℕ, zero, suc, ◌+◌, ◌*◌, ◌/◌, ◌%◌, ◌==◌, List, slice_index, if◌then◌else◌}
 use Rattle.std.specs.List.{All, Contains}
-use Rattle.h265_model.specs.declared.line.Job.{Job}
+use Rattle.h265_model.specs.declared.job.Job.{Job}
 use Rattle.h265_model.specs.Plain.{Size, Picture, coded, ctus, ctu_x, ctu_y}
-use Rattle.h265_model.specs.Desk.{tile_count}
+use Rattle.h265_model.specs.Tiles.{tile_count}
 use Rattle.px_plane.specs.declared.plane.Sides.{Sides}
 use Rattle.px_plane.specs.Planes.{Planes, IsPicture, picture_of}
 use Rattle.px_plane.specs.Rows.{IsWithin, is_in}

@@ -3,7 +3,7 @@ ghost use Rattle.std.specs.Prelude.{◌≡◌, ℕ, IfSome, IsNone, false};
 ghost use Rattle.std.specs.Option.{SomeIff};
 ghost use Rattle.px_plane.specs.Planes.{IsInside, clipped, covers};
 ghost use Rattle.h265_model.specs.Raster.{paints};
-ghost use Rattle.h265_model.specs.declared.line.Rect.{Rect};
+ghost use Rattle.h265_model.specs.declared.rect.Rect.{Rect};
 
 use crate::{Rect, Size};
 

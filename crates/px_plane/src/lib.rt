@@ -9,7 +9,7 @@ mod size;
 mod steps;
 
 pub use clip::Clip;
-pub use h265_model::{Job, Line, Pixels, Rect, Rgb};
+pub use h265_model::{Job, Rect, Rgb};
 pub use picture::Picture;
 pub use size::Size;
 pub use steps::Steps;

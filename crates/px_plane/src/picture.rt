@@ -1,11 +1,11 @@
 //! Pictures of three planes.
-ghost use Rattle.std.specs.Prelude.{◌≡◌, ℕ, ◌+◌, ◌*◌, ◌<◌, ◌≤◌, ◌↔◌, map, length, IfOk, IfSome, IsNone, IsTrue, false, List, ◌++◌, ◌∷◌, []};
+ghost use Rattle.std.specs.Prelude.{◌≡◌, ℕ, ◌+◌, ◌*◌, ◌<◌, ◌≤◌, ◌↔◌, map, length, IfOk, IfSome, IsNone, IsTrue, false};
 ghost use Rattle.h265_model.specs.Plain.{coded, ctus, below};
-ghost use Rattle.h265_model.specs.Words.{is_size};
-ghost use Rattle.h265_model.specs.declared.line.Line.{Line};
-ghost use Rattle.h265_model.specs.Raster.{Raster, component, coded_picture};
-ghost use Rattle.h265_model.specs.Desk.{tile_count, job_for};
-ghost use Rattle.px_plane.specs.Planes.{black, picture_of, plane_of, covers, filled, blitted, pixel_at, IsPicture, Stores, Shows, ShowsLines};
+ghost use Rattle.h265_model.specs.Settings.{is_size};
+ghost use Rattle.h265_model.specs.Raster.{Raster, black_raster, component, coded_picture};
+ghost use Rattle.h265_model.specs.declared.rgb.Rgb.{Rgb};
+ghost use Rattle.h265_model.specs.Tiles.{tile_count, job_for};
+ghost use Rattle.px_plane.specs.Planes.{black, picture_of, plane_of, covers, filled, blitted, pixel_at, IsPicture, Stores, Shows, ShowsColours, repainted};
 ghost use Rattle.px_plane.specs.Blocks.{same_places, compared, IsSameBlock, IsRowPart};
 ghost use Rattle.px_plane.specs.Tiles.{laid, IsJobOf, DiffersOnlyIn, IsTilePart, IsTileLaid};
 ghost use Rattle.px_plane.specs.Rows.{IsWithin, IsPartOf, IsPutInto, sample_at};
@@ -59,7 +59,7 @@ impl Picture {
     /// `NoMemory` where the allocator refuses one of the planes.
     pub fn black(alloc: Global, size: Size) -> Result<Picture, NoMemory>
         ensures value { IfOk result (λ p. p ≡ black size) }
-        ensures shows { IfOk result (λ p. ShowsLines p []) }
+        ensures shows { IfOk result (λ p. Shows p (black_raster p.size)) }
     {
         let area = coded_side(size.w()) as usize * coded_side(size.h()) as usize;
         let g = vec![in alloc; 0; area]?;
@@ -174,7 +174,7 @@ impl Picture {
     pub fn fill(&mut self, rect: Rect, colour: Rgb)
         ensures size { self.new.size ≡ self.old.size }
         ensures painted { Stores self.new (filled self.old rect colour) }
-        ensures shows { (lines : List Line) → ShowsLines self.old lines → ShowsLines self.new (lines ++ Line.Fill rect colour ∷ []) }
+        ensures shows { (before : ℕ → ℕ → Rgb) → ShowsColours self.old before → ShowsColours self.new (repainted rect (λ x y. colour) before) }
     {
         if let Some(part) = self.part(rect) {
             self.fill_part(part, colour);
@@ -200,7 +200,7 @@ impl Picture {
         requires { length pixels.now ≡ rect.w * rect.h }
         ensures size { self.new.size ≡ self.old.size }
         ensures painted { Stores self.new (blitted self.old rect pixels.now) }
-        ensures shows { (lines : List Line) → ShowsLines self.old lines → ShowsLines self.new (lines ++ Line.Blit rect pixels.now ∷ []) }
+        ensures shows { (before : ℕ → ℕ → Rgb) → ShowsColours self.old before → ShowsColours self.new (repainted rect (pixel_at rect pixels.now) before) }
     {
         if let Some(part) = self.part(rect) {
             self.blit_part(part, rect, pixels);

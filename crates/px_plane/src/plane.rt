@@ -1,6 +1,6 @@
 //! Writes to a part of one plane.
 ghost use Rattle.std.specs.Prelude.{◌≡◌, ℕ, ◌+◌, ◌*◌, ◌-◌, ◌<◌, ◌≤◌, length, slice_index, slice_index_or};
-ghost use Rattle.h265_model.specs.Lines.{black};
+ghost use Rattle.h265_model.specs.Raster.{black};
 ghost use Rattle.h265_model.specs.Raster.{component};
 ghost use Rattle.px_plane.specs.Planes.{pixel_at};
 ghost use Rattle.px_plane.specs.Rows.{IsPut, IsPlaced, sample_at};

@@ -1,7 +1,7 @@
 //! The size of a desktop.
 ghost use Rattle.std.specs.Prelude.{◌≡◌, IsTrue};
 ghost use Rattle.std.specs.Option.{SomeIff};
-ghost use Rattle.h265_model.specs.Words.{is_size};
+ghost use Rattle.h265_model.specs.Settings.{is_size};
 
 use std::marker::Model;
 
@@ -15,7 +15,7 @@ pub struct Size {
 impl Model for Size {
     ghost use Rattle.std.specs.Prelude.{IsTrue};
     ghost use Rattle.h265_model.specs.Plain as plain;
-    ghost use Rattle.h265_model.specs.Words.{is_size};
+    ghost use Rattle.h265_model.specs.Settings.{is_size};
 
     ghost Value = { plain.Size };
 

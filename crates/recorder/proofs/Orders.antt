@@ -9,15 +9,16 @@ use Rattle.std.proofs.lemmas.List.Elements.{All-tail}
 use Rattle.std.proofs.lemmas.List.Sums.{sum_by-cons, sum_by_more, sum_by-take-le}
 use Rattle.std.proofs.lemmas.List.FromFn.{length-range_with_len}
 use Rattle.atomic_table.specs.Seated.{TableId}
-use Rattle.h265_model.specs.declared.entry.Entry.{Entry}
-use Rattle.h265_model.specs.declared.line.Line.{Line}
-use Rattle.h265_model.specs.Files.{WhereTold}
+use Rattle.recorder_model.specs.declared.entry.Entry.{Entry}
+use Rattle.recorder_model.specs.declared.line.Line.{Line}
+use Rattle.recorder_model.specs.Files.{WhereTold}
 use Rattle.h265_model.specs.Plain.{Size, joined}
-use Rattle.h265_model.specs.Words.{Settings}
-use Rattle.h265_model.specs.Script.{is_cut}
-use Rattle.h265_model.specs.Setting.{Setting}
-use Rattle.h265_model.specs.Raster.{Raster, pictures}
-use Rattle.h265_model.specs.Histories.{IsLawful, Merges, indexes_of, script_length, takes}
+use Rattle.h265_model.specs.Settings.{Settings}
+use Rattle.recorder_model.specs.Script.{is_cut}
+use Rattle.recorder_model.specs.Setting.{Setting}
+use Rattle.h265_model.specs.Raster.{Raster}
+use Rattle.recorder_model.specs.Painting.{pictures}
+use Rattle.recorder_model.specs.Histories.{IsLawful, Merges, indexes_of, script_length, takes}
 use Rattle.h265_model.specs.Stream.{pieces}
 use Rattle.h265_laws.proofs.Prefixes.{prefixes}
 use Rattle.desk_state.specs.Standing.{most_entries}

@@ -3,16 +3,18 @@ use Rattle.std.proofs.Common.{◌≡◌, ℕ, zero, suc, ◌+◌, ◌<◌, ◌�
 use Rattle.std.specs.Prelude.{slice_index_or}
 use Rattle.std.specs.List.{range_with_len}
 use Rattle.std.proofs.lemmas.List.{append-nil, take-append-le, take_more}
-use Rattle.h265_model.specs.declared.entry.Entry.{Entry}
-use Rattle.h265_model.specs.declared.entry.Entry.TheVariants.{Line, Take}
-use Rattle.h265_model.specs.declared.line.Job.{Job}
-use Rattle.h265_model.specs.declared.line.Line as line
+use Rattle.recorder_model.specs.declared.entry.Entry.{Entry}
+use Rattle.recorder_model.specs.declared.entry.Entry.TheVariants.{Line, Take}
+use Rattle.h265_model.specs.declared.job.Job.{Job}
+use Rattle.recorder_model.specs.declared.line.Line as line
 use Rattle.h265_model.specs.Plain.{Size}
-use Rattle.h265_model.specs.Setting.{Setting}
-use Rattle.h265_model.specs.Raster.{Raster, raster, rasters_after, lines_of, pictures, coded_picture}
-use Rattle.h265_model.specs.Histories.{IsLawful, take_numbers, takes, cuts}
-use Rattle.h265_model.specs.Desk.{job_for, job_of}
-use Rattle.h265_laws.proofs.PlayLaws.{rasters_after-append}
+use Rattle.recorder_model.specs.Setting.{Setting}
+use Rattle.h265_model.specs.Raster.{Raster, black_raster, coded_picture}
+use Rattle.recorder_model.specs.Painting.{raster, rasters_after, lines_of, pictures}
+use Rattle.recorder_model.specs.Histories.{IsLawful, take_numbers, takes, cuts}
+use Rattle.recorder_model.specs.Desk.{job_of}
+use Rattle.h265_model.specs.Tiles.{job_for}
+use Rattle.recorder_laws.proofs.PlayLaws.{raster_of_none, rasters_after-append}
 use Rattle.px_plane.specs.Planes.{Planes, Shows}
 use Rattle.px_plane.specs.Tiles.{IsJobOf, DiffersOnlyIn}
 use Rattle.desk_state.specs.Laws.{shown_at, shown_before}
@@ -183,12 +185,12 @@ last_front d (p ∷ []) zero less = refl
 last_front d (p ∷ q ∷ ps) zero less = refl
 last_front d (p ∷ ps) (suc m) less = last_front p ps m (omega arith)
 
-before_is : (setting : Setting) (h : List Entry) (k : ℕ) → k ≤ cuts setting.scripts h → last_of (raster setting.size []) (take k (pictures setting.size setting.scripts h)) ≡ shown_before setting h k
-before_is setting h zero few = refl
-before_is setting h (suc m) few = last_front (raster setting.size []) (pictures setting.size setting.scripts h) m (let n = count_pictures setting.size setting.scripts h in omega (arith, n, few))
+before_is : (setting : Setting) (h : List Entry) (k : ℕ) → k ≤ cuts setting.scripts h → last_of (black_raster setting.size) (take k (pictures setting.size setting.scripts h)) ≡ shown_before setting h k
+before_is setting h zero few = raster_of_none setting.size
+before_is setting h (suc m) few = last_front (black_raster setting.size) (pictures setting.size setting.scripts h) m (let n = count_pictures setting.size setting.scripts h in omega (arith, n, few))
 
 job_turns : (setting : Setting) (h : List Entry) (k : ℕ) (last : Planes) (job : Job) → k < cuts setting.scripts h → job ≡ job_of setting h k → last.size ≡ setting.size
-    → Shows last (last_of (raster setting.size []) (take k (pictures setting.size setting.scripts h))) → TurnsInto job last (shown_at setting h k)
+    → Shows last (last_of (black_raster setting.size) (take k (pictures setting.size setting.scripts h))) → TurnsInto job last (shown_at setting h k)
 job_turns setting h k last job less is sized shows =
     let law = each_leads_on setting h k less in
     let before : Shows last (shown_before setting h k) = subst (Shows last) (before_is setting h k (omega (arith, less))) shows in
@@ -224,7 +226,7 @@ next_job first old new job is turn =
       whole = subst (IsJobOf setting.size) (sym job_is) law.whole;
       number = ap (λ (j : Job). j.number) (job_is ∙ law.made);
       turns = λ encoder at. job_turns setting base k encoder.last job less job_is (at.sized ∙ at.size)
-          (subst (Shows encoder.last) (ap (λ (s : Size). last_of (raster s []) (taken_pictures v)) at.size ∙ ap (last_of (raster setting.size [])) (sym front)) at.stands.last);
+          (subst (Shows encoder.last) (ap (λ (s : Size). last_of (black_raster s) (taken_pictures v)) at.size ∙ ap (last_of (black_raster setting.size)) (sym front)) at.stands.last);
     }
 
 -- ---- a pass that has seen nothing

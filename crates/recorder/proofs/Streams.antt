@@ -3,14 +3,14 @@ use Rattle.std.proofs.Common.{◌≡◌, ℕ, suc, ◌+◌, List, [], ◌∷◌,
 use Rattle.std.specs.Prelude.{slice_index_or, Ok, Err}
 use Rattle.std.proofs.lemmas.List.{append-nil, length-take-le, get_or_at}
 use Rattle.std.proofs.lemmas.List.Concat.{flat_map-append}
-use Rattle.h265_model.specs.declared.line.Job.{Job}
-use Rattle.h265_model.specs.Files.{WhereTold}
-use Rattle.h265_model.specs.FileLaws.{told_on, told_same}
+use Rattle.h265_model.specs.declared.job.Job.{Job}
+use Rattle.recorder_model.specs.Files.{WhereTold}
+use Rattle.recorder_model.specs.FileLaws.{told_on, told_same}
 use Rattle.h265_model.specs.Plain.{joined}
-use Rattle.h265_model.specs.Words.{Settings}
+use Rattle.h265_model.specs.Settings.{Settings}
 use Rattle.h265_model.specs.Raster.{Raster}
-use Rattle.h265_model.specs.Histories.{IsLawful, takes}
-use Rattle.h265_model.specs.Setting.{Setting}
+use Rattle.recorder_model.specs.Histories.{IsLawful, takes}
+use Rattle.recorder_model.specs.Setting.{Setting}
 use Rattle.h265_model.specs.Stream.{pieces, pieces_after}
 use Rattle.h265_model.proofs.ListParts.{take_front}
 use Rattle.h265_laws.proofs.Prefixes.{prefixes}

@@ -1,10 +1,11 @@
 -- How a recording ends, and what the sink got.
 use Rattle.std.specs.Prelude.{◌≡◌, ℕ, ◌+◌, ◌≤◌, List, [], ◌∷◌, ◌++◌, length, take, Option, slice_index_or, true}
-use Rattle.h265_model.specs.Files.{WhereTold, Rose, IsPrefix}
+use Rattle.recorder_model.specs.Files.{WhereTold, Rose, IsPrefix}
 use Rattle.h265_model.specs.Plain.{joined}
-use Rattle.h265_model.specs.Words.{Settings}
-use Rattle.h265_model.specs.Raster.{Raster, pictures}
-use Rattle.h265_model.specs.Histories.{IsLawful, takes}
+use Rattle.h265_model.specs.Settings.{Settings}
+use Rattle.h265_model.specs.Raster.{Raster}
+use Rattle.recorder_model.specs.Painting.{pictures}
+use Rattle.recorder_model.specs.Histories.{IsLawful, takes}
 use Rattle.h265_model.specs.Stream.{pieces}
 use Rattle.turn_lock.specs.Turns.{Begins}
 use Rattle.turn_lock.specs.Standing.{Standing}

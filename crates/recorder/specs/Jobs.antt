@@ -1,11 +1,11 @@
 -- The recorder's jobs, one after another, and the stream so far.
 use Rattle.std.specs.Prelude.{◌≡◌, ℕ, ◌+◌, List, ◌∷◌, [], ◌++◌, length, take, Option, true}
-use Rattle.h265_model.specs.declared.line.Job.{Job}
-use Rattle.h265_model.specs.Files.{WhereTold}
+use Rattle.h265_model.specs.declared.job.Job.{Job}
+use Rattle.recorder_model.specs.Files.{WhereTold}
 use Rattle.h265_model.specs.Plain.{joined}
-use Rattle.h265_model.specs.Words.{Settings}
+use Rattle.h265_model.specs.Settings.{Settings}
 use Rattle.h265_model.specs.Raster.{Raster}
-use Rattle.h265_model.specs.Histories.{takes}
+use Rattle.recorder_model.specs.Histories.{takes}
 use Rattle.h265_model.specs.Stream.{pieces}
 use Rattle.px_plane.specs.Tiles.{IsJobOf}
 use Rattle.turn_lock.specs.declared.knowledge.Knowledge.{Knowledge}

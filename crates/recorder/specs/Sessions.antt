@@ -1,11 +1,11 @@
 -- A session: what is recorded, and how.
 use Rattle.std.specs.Prelude.{◌≡◌, ℕ, List, sum_by, count_by, Bool, true, false}
-use Rattle.h265_model.specs.declared.entry.Entry.{Entry}
-use Rattle.h265_model.specs.declared.line.Line.{Line}
-use Rattle.h265_model.specs.Script.{is_cut}
-use Rattle.h265_model.specs.Words.{Settings}
-use Rattle.h265_model.specs.Histories.{IsLawful, Merges}
-use Rattle.h265_model.specs.Headline.{IsPlayed}
+use Rattle.recorder_model.specs.declared.entry.Entry.{Entry}
+use Rattle.recorder_model.specs.declared.line.Line.{Line}
+use Rattle.recorder_model.specs.Script.{is_cut}
+use Rattle.h265_model.specs.Settings.{Settings}
+use Rattle.recorder_model.specs.Histories.{IsLawful, Merges}
+use Rattle.recorder_model.specs.Headline.{IsPlayed}
 use Rattle.recorder.specs.declared.record.RecordEnd.{RecordEnd}
 use Rattle.recorder.specs.declared.record.RecordEnd.TheVariants as end
 

@@ -7,7 +7,7 @@ ghost use Rattle.live_desk.specs.Desks.{IsSameClient};
 ghost use Rattle.live_desk.specs.Turned.{IsKept};
 ghost use Rattle.recorder.specs.Players.{IsAt, HasEnded, HaveEnded, AreFolded};
 
-use edges::Gate;
+use gate::Gate;
 use h265_model::NoMemory;
 use live_desk::{ClientPass, Desk, PlayError, RecorderPass};
 use std::sync::Wait;

@@ -6,8 +6,9 @@ mod record;
 mod session;
 
 pub use clients::play_all;
-pub use h265_model::{Entry, NoMemory};
+pub use h265_model::NoMemory;
 pub use record::{RecordEnd, record_all};
+pub use recorder_model::Entry;
 pub use session::{Recording, Session};
 
 #[cfg(test)]

@@ -1,14 +1,15 @@
 //! The recorder: it takes jobs from a desk, and appends the piece of each picture.
 ghost use Rattle.std.specs.Prelude.{◌≡◌, ◌≤◌, ◌<◌, ◌-◌, ◌^◌, [], IfSome, MatchOption};
-ghost use Rattle.h265_model.specs.Files.{WhereTold};
-ghost use Rattle.h265_model.specs.Histories.{takes};
+ghost use Rattle.recorder_model.specs.Files.{WhereTold};
+ghost use Rattle.recorder_model.specs.Histories.{takes};
 ghost use Rattle.picture_encoder.specs.Coded.{StandsFor};
 ghost use Rattle.live_desk.specs.Passes.{fresh_recorder};
 ghost use Rattle.recorder.specs.Ends.{Ends, HasEndCause, HasRecorded, HasCoded, SawMark, seen_pictures};
 ghost use Rattle.recorder.specs.Jobs.{IsNextJob, HasNoJob, end_after};
 
 use crossbeam_utils::Backoff;
-use edges::{Gate, Sink, WriteError};
+use edges::{Sink, WriteError};
+use gate::Gate;
 use live_desk::{Desk, Job, RecorderPass, Taken};
 use picture_encoder::Encoder;
 use std::sync::Wait;

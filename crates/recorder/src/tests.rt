@@ -6,11 +6,13 @@ ghost use Rattle.paint_script.specs.Spellable.{IsSpellable, IsSpellableRect};
 ghost use Rattle.desk_state.specs.Standing.{most_entries};
 
 use crate::{Entry, NoMemory, RecordEnd, Recording, Session, play_all, record_all};
-use edges::{Gate, MemorySink, NoGate};
-use h265_model::{Line, Rect, Rgb};
+use edges::MemorySink;
+use gate::{Gate, NoGate};
+use h265_model::{Rect, Rgb};
 use live_desk::{Desk, Scripts, Size};
 use paint_script::Script;
 use picture_encoder::Encoder;
+use recorder_model::Line;
 use std::alloc::Global;
 use std::hint;
 use std::sync::Wait;

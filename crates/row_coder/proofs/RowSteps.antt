@@ -12,7 +12,7 @@ use Rattle.h265_model.specs.declared.leaf.SliceKind.{SliceKind}
 use Rattle.h265_model.specs.Plain.{Size, ctus, below, joined, terminate_bin}
 use Rattle.h265_model.specs.Code.{Plain, Ended, phase_after, code, contexts_after}
 use Rattle.h265_model.specs.Tree.{Source, ctu_items, is_last, IsLawfulTree}
-use Rattle.h265_model.specs.Desk.{tile_count}
+use Rattle.h265_model.specs.Tiles.{tile_count}
 use Rattle.arrayvec.specs.ArrayVec.{ArrayVec}
 use Rattle.px_plane.specs.Planes.{Planes, picture_of}
 use Rattle.bin_items.specs.Growth.{Grew, IsOpen, Meaning}

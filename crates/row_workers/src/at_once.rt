@@ -9,7 +9,7 @@ ghost use Rattle.row_workers.specs.AtOnce.{KeepsRows, IsSettled, IsMoreBy, IsRow
 
 use crate::SHOWN;
 use crossbeam_utils::Backoff;
-use edges::Gate;
+use gate::Gate;
 use h265_model::NoMemory;
 use row_board::{Board, Row, RowSeat, SyncError};
 use row_core::{Contexts, RowJob};

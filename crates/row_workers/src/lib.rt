@@ -6,7 +6,7 @@ mod at_once;
 
 pub use alone::rows_alone;
 pub use at_once::run_rows;
-pub use edges::Gate;
+pub use gate::Gate;
 pub use h265_model::NoMemory;
 pub use row_core::{Contexts, RowJob};
 

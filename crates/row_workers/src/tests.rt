@@ -6,7 +6,7 @@ ghost use Rattle.h265_model.specs.declared.leaf.SliceKind.TheVariants.{I};
 ghost use Rattle.h265_model.proofs.ContextLaws.{inherited_are, step_is};
 
 use crate::{Contexts, NoMemory, RowJob, rows_alone, run_rows};
-use edges::{Gate, NoGate};
+use gate::{Gate, NoGate};
 use h265_model::SliceKind;
 use std::alloc::Global;
 use std::hint;

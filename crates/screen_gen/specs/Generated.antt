@@ -2,10 +2,10 @@
 use Rattle.std.specs.Prelude.{ℕ, zero, suc, ◌+◌, ◌*◌, ◌/◌, ◌%◌, ◌^◌, ◌&&◌, List, [], ◌∷◌, map, ◌==◌, nat_lt, if◌then◌else◌, Bool, ◌≡◌}
 use Rattle.rand_xoshiro.specs.SplitMix64.{mix_u64}
 use Rattle.h265_model.specs.Plain.{below}
-use Rattle.h265_model.specs.declared.line.Rect.{Rect}
-use Rattle.h265_model.specs.declared.line.Rgb.{Rgb}
-use Rattle.h265_model.specs.declared.line.Line.{Line}
-use Rattle.h265_model.specs.declared.line.Line.TheVariants.{Fill, Blit, Cut}
+use Rattle.h265_model.specs.declared.rect.Rect.{Rect}
+use Rattle.h265_model.specs.declared.rgb.Rgb.{Rgb}
+use Rattle.recorder_model.specs.declared.line.Line.{Line}
+use Rattle.recorder_model.specs.declared.line.Line.TheVariants.{Fill, Blit, Cut}
 
 -- how many clients there are, and how many lines each has
 abbrev pub clients : ℕ

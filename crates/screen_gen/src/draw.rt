@@ -3,9 +3,10 @@ ghost use Rattle.std.specs.Prelude.{◌≡◌, ◌<◌, ◌*◌, ◌≤◌, ◌%
 ghost use Rattle.paint_script.specs.Spellable.{IsSpellable, IsSpellableColour};
 ghost use Rattle.screen_gen.specs.Generated.{colour_of, colours, rect_of, drawn, state_after};
 
-use h265_model::{Line, NoMemory, Pixels, Rect, Rgb};
+use h265_model::{NoMemory, Rect, Rgb};
 use rand_core::utils::NextWord;
 use rand_xoshiro::SplitMix64;
+use recorder_model::{Line, Pixels};
 use std::alloc::Global;
 
 /// The next line that paints.

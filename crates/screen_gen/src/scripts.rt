@@ -4,10 +4,11 @@ ghost use Rattle.paint_script.specs.Spellable.{IsSpellable};
 ghost use Rattle.screen_gen.specs.Generated.{is_cut, client_script, generated, IsNext};
 
 use crate::draw::draw_line;
-use h265_model::{Line, NoMemory};
+use h265_model::NoMemory;
 use paint_script::{Script, Scripts};
 use rand_core::SeedableRng;
 use rand_xoshiro::SplitMix64;
+use recorder_model::Line;
 use std::alloc::Global;
 
 /// How many clients there are.

@@ -5,13 +5,14 @@ use Rattle.std.specs.Borrow.{Bor}
 use Rattle.std.proofs.lemmas.List.{take_more}
 use Rattle.std.proofs.lemmas.Bool.Decides.{nat_tests}
 use Rattle.std.proofs.lemmas.List.Sums.{sum_by-cons}
-use Rattle.h265_model.specs.declared.refusal.Cause.{Cause}
-use Rattle.h265_model.specs.declared.refusal.LimitKind.TheVariants.{Lines, Cuts}
-use Rattle.h265_model.specs.declared.line.Line.{Line}
-use Rattle.h265_model.specs.Script.{script_of, is_cut, ◌>>-◌}
-use Rattle.h265_model.specs.Files.{Files, file_at, WhereTold}
-use Rattle.h265_model.specs.FileLaws.{told_on, told_same}
-use Rattle.h265_model.specs.Headline.{most_bytes, most_lines, most_cuts, Refusal, TooLarge, BadPaint, Limit, sized, in_file, within, scripts_after, scripts_of, contents}
+use Rattle.recorder_model.specs.declared.refusal.Cause.{Cause}
+use Rattle.recorder_model.specs.declared.refusal.LimitKind.TheVariants.{Lines, Cuts}
+use Rattle.recorder_model.specs.declared.line.Line.{Line}
+use Rattle.recorder_model.specs.Script.{script_of, is_cut}
+use Rattle.h265_model.specs.Bits.{◌>>-◌}
+use Rattle.recorder_model.specs.Files.{Files, file_at, WhereTold}
+use Rattle.recorder_model.specs.FileLaws.{told_on, told_same}
+use Rattle.recorder_model.specs.Headline.{most_bytes, most_lines, most_cuts, Refusal, TooLarge, BadPaint, Limit, sized, in_file, within, scripts_after, scripts_of, contents}
 use Rattle.command_line.specs.Views.{texts}
 use Rattle.screenrec.specs.declared.outcome.Status.{Status}
 use Rattle.screenrec.specs.declared.outcome.Status.TheVariants as status

@@ -5,22 +5,24 @@ use Rattle.std.specs.List.{All, AllByRecursion}
 use Rattle.std.specs.FinMap.{insert}
 use Rattle.std.proofs.Math.Seq.{take-length}
 use Rattle.std.proofs.lemmas.List.{append-nil}
-use Rattle.h265_model.specs.declared.entry.Entry.{Entry}
-use Rattle.h265_model.specs.declared.line.Line.{Line}
-use Rattle.h265_model.specs.declared.line.Line.TheVariants.{Fill, Blit, Cut}
+use Rattle.recorder_model.specs.declared.entry.Entry.{Entry}
+use Rattle.recorder_model.specs.declared.line.Line.{Line}
+use Rattle.recorder_model.specs.declared.line.Line.TheVariants.{Fill, Blit, Cut}
 use Rattle.h265_model.specs.Plain.{Size, joined}
-use Rattle.h265_model.specs.Words.{SerialWords, is_size}
-use Rattle.h265_model.specs.Raster.{Raster, IsColour, HasColours, pictures, rasters_after}
+use Rattle.recorder_model.specs.Words.{SerialWords}
+use Rattle.h265_model.specs.Settings.{is_size}
+use Rattle.h265_model.specs.Raster.{Raster, IsColour}
+use Rattle.recorder_model.specs.Painting.{HasColours, pictures, rasters_after}
 use Rattle.h265_model.specs.Stream.{pieces, stream_of}
 use Rattle.h265_model.specs.Decode.{decode}
-use Rattle.h265_model.specs.Script.{is_cut}
-use Rattle.h265_model.specs.Report.{report_text}
-use Rattle.h265_model.specs.Histories.{own_order, cuts, paints, IsLawful}
-use Rattle.h265_model.specs.Headline.{report_of, IsRecorded, IsCutShort}
-use Rattle.h265_model.specs.Files.{Files, IsPrefix, WhereTold}
+use Rattle.recorder_model.specs.Script.{is_cut}
+use Rattle.recorder_model.specs.Report.{report_text}
+use Rattle.recorder_model.specs.Histories.{own_order, cuts, paints, IsLawful}
+use Rattle.recorder_model.specs.Headline.{report_of, IsRecorded, IsCutShort}
+use Rattle.recorder_model.specs.Files.{Files, IsPrefix, WhereTold}
 use Rattle.edges.specs.declared.sink.WriteError.{WriteError}
 use Rattle.edges.specs.declared.sink.WriteError.TheVariants as write
-use Rattle.h265_laws.proofs.PlayLaws.{cuts-own_order, paints-own_order, pictures-own_order, own_order-is_lawful, each_picture_is_raster}
+use Rattle.recorder_laws.proofs.PlayLaws.{cuts-own_order, paints-own_order, pictures-own_order, own_order-is_lawful, each_picture_is_raster}
 use Rattle.h265_laws.proofs.StreamLaw.{each_stream_is_decoded}
 use Rattle.paint_script.specs.Spellable.{IsSpellable, AreSpellable, IsSpellableColour}
 use Rattle.screenrec.specs.Stored.{IsStored, EndsIn}

@@ -3,18 +3,18 @@ use Rattle.std.proofs.Common.{◌≡◌, ℕ, zero, suc, ◌+◌, ◌-◌, ◌<�
 use Rattle.std.specs.Prelude.{count_by, not}
 use Rattle.std.specs.List.{range_with_len}
 use Rattle.std.proofs.lemmas.List.FromFn.{map-range_with_len_more}
-use Rattle.h265_model.specs.declared.entry.Entry.{Entry}
-use Rattle.h265_model.specs.declared.entry.Entry.TheVariants as entry
-use Rattle.h265_model.specs.declared.line.Line.{Line}
-use Rattle.h265_model.specs.declared.line.Line.TheVariants.{Cut}
+use Rattle.recorder_model.specs.declared.entry.Entry.{Entry}
+use Rattle.recorder_model.specs.declared.entry.Entry.TheVariants as entry
+use Rattle.recorder_model.specs.declared.line.Line.{Line}
+use Rattle.recorder_model.specs.declared.line.Line.TheVariants.{Cut}
 use Rattle.h265_model.specs.Plain.{below}
-use Rattle.h265_model.specs.Script.{is_cut}
-use Rattle.h265_model.specs.Raster.{accepted_line, lines_of}
+use Rattle.recorder_model.specs.Script.{is_cut}
+use Rattle.recorder_model.specs.Painting.{accepted_line, lines_of}
 use Rattle.h265_model.specs.Stream.{stream_of}
-use Rattle.h265_model.specs.Histories.{cuts, paints, script_length}
-use Rattle.h265_model.specs.Report.{report_text}
-use Rattle.h265_model.specs.Headline.{report_of}
-use Rattle.h265_model.specs.Files.{IsPrefix, WhereTold}
+use Rattle.recorder_model.specs.Histories.{cuts, paints, script_length}
+use Rattle.recorder_model.specs.Report.{report_text}
+use Rattle.recorder_model.specs.Headline.{report_of}
+use Rattle.recorder_model.specs.Files.{IsPrefix, WhereTold}
 use Rattle.screen_gen.specs.Generated.{clients, line_count, is_cut as cuts_at, drawn, lines_from, generated}
 use Rattle.screenrec.specs.Demo.{turn_entry, demo_order, demo_settings, HasRounds, IsPlayedDemo}
 use Rattle.screenrec.specs.Stored.{stream_after}

@@ -7,12 +7,12 @@ use Rattle.std.specs.declared.cmp.Ordering.TheVariants.{Less, Equal, Greater}
 use Rattle.std.specs.Cmp.Lexicographic.{slice_cmp, nat_list_cmp_total}
 use Rattle.std.specs.FinMap.{get, insert, remove, get-insert, get-remove, get_tied, same_map, slice_cmp-IsAntisymmetric, nat_cmp-IsAntisymmetric}
 use Rattle.std.proofs.lemmas.List.{append-nil}
-use Rattle.h265_model.specs.Words.{Settings}
+use Rattle.h265_model.specs.Settings.{Settings}
 use Rattle.h265_model.specs.Raster.{Raster}
 use Rattle.h265_model.specs.Stream.{pieces}
-use Rattle.h265_model.specs.Files.{Files, file_at, WhereTold}
-use Rattle.h265_model.specs.FileLaws.{insert_again}
-use Rattle.h265_model.specs.Headline.{IsCutShort}
+use Rattle.recorder_model.specs.Files.{Files, file_at, WhereTold}
+use Rattle.recorder_model.specs.FileLaws.{insert_again}
+use Rattle.recorder_model.specs.Headline.{IsCutShort}
 use Rattle.edges.specs.Sunk.{IsThere}
 use Rattle.recorder.specs.declared.record.RecordEnd.{RecordEnd}
 use Rattle.recorder.specs.declared.record.RecordEnd.TheVariants as end

@@ -1,10 +1,10 @@
 -- What stands where the one file is refused.
 use Rattle.std.proofs.Common.{◌≡◌, ℕ, List, [], ◌∷◌, take, Option, Err, inl, refl, sym, subst}
 use Rattle.std.specs.Prelude.{IsOk}
-use Rattle.h265_model.specs.declared.entry.Entry.{Entry}
-use Rattle.h265_model.specs.Words.{SerialWords}
-use Rattle.h265_model.specs.Headline.{IsUntouched, scripts_of, scripts_after, contents}
-use Rattle.h265_model.specs.Files.{Files, WhereTold, file_at}
+use Rattle.recorder_model.specs.declared.entry.Entry.{Entry}
+use Rattle.recorder_model.specs.Words.{SerialWords}
+use Rattle.recorder_model.specs.Headline.{IsUntouched, scripts_of, scripts_after, contents}
+use Rattle.recorder_model.specs.Files.{Files, WhereTold, file_at}
 use Rattle.screenrec.specs.declared.outcome.Status.{Status}
 use Rattle.screenrec.specs.declared.outcome.Status.TheVariants as status
 use Rattle.screenrec.specs.Accepted.{Accepts, IsOfTheFile}

@@ -2,20 +2,24 @@
 use Rattle.std.proofs.Common.{◌≡◌, ℕ, zero, suc, ◌+◌, false, List, [], ◌∷◌, ◌++◌, length, get_or, refl, sym, ap, subst, ◌∙◌, arith}
 use Rattle.std.proofs.lemmas.List.{append-nil, get_or_at}
 use Rattle.std.specs.Prelude.{count_by, Result, Ok, Err, IfOk}
-use Rattle.h265_model.specs.declared.entry.Entry.{Entry}
-use Rattle.h265_model.specs.declared.line.Job.{Job}
-use Rattle.h265_model.specs.declared.line.Line.{Line}
-use Rattle.h265_model.specs.declared.line.Line.TheVariants.{Cut}
+use Rattle.recorder_model.specs.declared.entry.Entry.{Entry}
+use Rattle.h265_model.specs.declared.job.Job.{Job}
+use Rattle.recorder_model.specs.declared.line.Line.{Line}
+use Rattle.recorder_model.specs.declared.line.Line.TheVariants.{Cut}
 use Rattle.h265_model.specs.Plain.{Size, Picture, joined}
-use Rattle.h265_model.specs.Words.{Settings}
-use Rattle.h265_model.specs.Setting.{Setting}
-use Rattle.h265_model.specs.Script.{is_cut}
-use Rattle.h265_model.specs.Raster.{Raster, raster, rasters_after, lines_of, coded_picture}
-use Rattle.h265_model.specs.Histories.{own_order, cuts}
-use Rattle.h265_model.specs.Desk.{job_for, job_of, touched_by}
+use Rattle.h265_model.specs.Settings.{Settings}
+use Rattle.recorder_model.specs.Setting.{Setting}
+use Rattle.recorder_model.specs.Script.{is_cut}
+use Rattle.h265_model.specs.Raster.{Raster, black_raster, coded_picture}
+use Rattle.recorder_model.specs.Painting.{raster, rasters_after, lines_of}
+use Rattle.recorder_model.specs.Histories.{own_order, cuts}
+use Rattle.recorder_model.specs.Desk.{job_of, touched_by}
+use Rattle.h265_model.specs.Tiles.{job_for}
 use Rattle.h265_model.specs.Stream.{pieces}
-use Rattle.h265_laws.proofs.PlayLaws.{lines_of-own_order, pictures-own_order, cuts-own_order, pieces-append}
-use Rattle.px_plane.specs.Planes.{Planes, Shows, ShowsLines}
+use Rattle.recorder_laws.proofs.PlayLaws.{raster_of_none, lines_of-own_order, pictures-own_order, cuts-own_order}
+use Rattle.h265_laws.proofs.Prefixes.{pieces-append}
+use Rattle.px_plane.specs.Planes.{Planes, Shows}
+use Rattle.desk_surface.specs.Shown.{ShowsLines}
 use Rattle.px_plane.specs.Tiles.{IsJobOf, DiffersOnlyIn}
 use Rattle.desk_surface.specs.Damage.{Painted, IsFlagged}
 use Rattle.desk_state.specs.Laws.{LeadsOn, shown_at, shown_before}
@@ -59,12 +63,12 @@ none_is shown [] e = refl
 none_is shown (p ∷ ps) e = absurd (omega arith)
 
 before_is : (size : Size) (done : List Line) (n : ℕ) → length (rasters_after size [] done) ≡ n →
-    last_of (raster size []) (rasters_after size [] done) ≡ shown_before (setting_at size done) (order_at done) n
-before_is size done zero e = none_is (raster size []) (rasters_after size [] done) e
+    last_of (black_raster size) (rasters_after size [] done) ≡ shown_before (setting_at size done) (order_at done) n
+before_is size done zero e = none_is (black_raster size) (rasters_after size [] done) e ∙ raster_of_none size
 before_is size done (suc n) e =
     sym (
     ap (λ (rs : List Raster). get_or rs n []) (pictures-own_order size (done ++ Cut ∷ []) ∙ rasters_cut size [] done)
-    ∙ last_is (raster size []) (rasters_after size [] done) (raster size done) n e
+    ∙ last_is (black_raster size) (rasters_after size [] done) (raster size done) n e
     )
 
 abbrev job_at : Size → List Line → Job
@@ -85,7 +89,7 @@ job_whole size done job is = subst (IsJobOf size) (job_is size done ∙ sym is) 
 
 -- and turns the last picture into the next one
 job_turns : (size : Size) (done : List Line) (last : Planes) (job : Job) → last.size ≡ size →
-    Shows last (last_of (raster size []) (rasters_after size [] done)) → job ≡ job_at size done → TurnsInto job last (raster size done)
+    Shows last (last_of (black_raster size) (rasters_after size [] done)) → job ≡ job_at size done → TurnsInto job last (raster size done)
 job_turns size done last job sized shows is =
     let law = law_at size done in
     let before : Shows last (shown_before (setting_at size done) (order_at done) (count_by is_cut done)) =
@@ -139,8 +143,8 @@ pub job_leads : (settings : Settings) (stage : Stage) (done : List Line) (job : 
     TurnsInto job stage.encoder.last (raster settings.size done)
 job_leads settings stage done job is makes =
     let size : stage.encoder.settings.size ≡ settings.size = ap (λ (s : Settings). s.size) is.same in
-    let shows : Shows stage.encoder.last (last_of (raster settings.size []) (rasters_after settings.size [] done)) =
-    subst (λ (s : Size). Shows stage.encoder.last (last_of (raster s []) (rasters_after settings.size [] done))) size is.coded.last in
+    let shows : Shows stage.encoder.last (last_of (black_raster settings.size) (rasters_after settings.size [] done)) =
+    subst (λ (s : Size). Shows stage.encoder.last (last_of (black_raster s) (rasters_after settings.size [] done))) size is.coded.last in
     job_turns settings.size done stage.encoder.last job is.picture shows (job_now settings stage done job is makes)
 
 -- ---- what the calls leave

@@ -5,20 +5,21 @@ use Rattle.std.proofs.lemmas.List.{get_or_at}
 use Rattle.std.specs.Prelude.{slice_index_or, IfOk}
 use Rattle.std.specs.List.{slice_get}
 use Rattle.std.specs.FinMap.{insert}
-use Rattle.h265_model.specs.declared.line.Line.{Line}
-use Rattle.h265_model.specs.declared.line.Line.TheVariants.{Fill, Blit, Cut}
+use Rattle.recorder_model.specs.declared.line.Line.{Line}
+use Rattle.recorder_model.specs.declared.line.Line.TheVariants.{Fill, Blit, Cut}
 use Rattle.h265_model.specs.Plain.{joined}
-use Rattle.h265_model.specs.Words.{Settings}
-use Rattle.h265_model.specs.Script.{is_cut}
-use Rattle.h265_model.specs.Raster.{raster, rasters_after}
+use Rattle.h265_model.specs.Settings.{Settings}
+use Rattle.recorder_model.specs.Script.{is_cut}
+use Rattle.recorder_model.specs.Painting.{raster, rasters_after}
 use Rattle.h265_model.specs.NalUnits.{stream_bytes}
 use Rattle.h265_model.specs.ParamSets.{param_units}
 use Rattle.h265_model.specs.Stream.{pieces, pieces_after, stream_of}
-use Rattle.h265_model.specs.Files.{Files, file_at, IsPrefix, WhereTold}
-use Rattle.h265_model.specs.FileLaws.{file_at-insert, insert_again, told_on}
-use Rattle.h265_model.specs.Headline.{IsCutShort}
+use Rattle.recorder_model.specs.Files.{Files, file_at, IsPrefix, WhereTold}
+use Rattle.recorder_model.specs.FileLaws.{file_at-insert, insert_again, told_on}
+use Rattle.recorder_model.specs.Headline.{IsCutShort}
 use Rattle.h265_model.proofs.ListParts.{take_front}
-use Rattle.h265_laws.proofs.PlayLaws.{pieces-append, pieces_of_front}
+use Rattle.recorder_laws.proofs.PlayLaws.{pieces_of_front}
+use Rattle.h265_laws.proofs.Prefixes.{pieces-append}
 use Rattle.edges.specs.Shelf.{AppendsTo}
 use Rattle.edges.specs.declared.sink.WriteError.{WriteError}
 use Rattle.edges.specs.declared.sink.WriteError.TheVariants as write

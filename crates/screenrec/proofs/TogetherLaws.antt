@@ -6,21 +6,23 @@ use Rattle.std.specs.FinMap.{insert}
 use Rattle.std.proofs.lemmas.Bool.{cases_lt}
 use Rattle.std.proofs.lemmas.List.{append-nil, get_or_past, take_more}
 use Rattle.std.proofs.lemmas.List.Sums.{sum_by-cons, count_by-le-length}
-use Rattle.h265_model.specs.declared.entry.Entry.{Entry}
-use Rattle.h265_model.specs.declared.entry.Entry.TheVariants as entry
-use Rattle.h265_model.specs.declared.line.Line.{Line}
-use Rattle.h265_model.specs.declared.line.Line.TheVariants.{Cut}
+use Rattle.recorder_model.specs.declared.entry.Entry.{Entry}
+use Rattle.recorder_model.specs.declared.entry.Entry.TheVariants as entry
+use Rattle.recorder_model.specs.declared.line.Line.{Line}
+use Rattle.recorder_model.specs.declared.line.Line.TheVariants.{Cut}
 use Rattle.h265_model.specs.Plain.{joined}
-use Rattle.h265_model.specs.Words.{Settings, RecordWords, is_size}
-use Rattle.h265_model.specs.Raster.{Raster, HasColours, accepted_line, lines_of, pictures}
+use Rattle.recorder_model.specs.Words.{RecordWords}
+use Rattle.h265_model.specs.Settings.{Settings, is_size}
+use Rattle.h265_model.specs.Raster.{Raster}
+use Rattle.recorder_model.specs.Painting.{HasColours, accepted_line, lines_of, pictures}
 use Rattle.h265_model.specs.Stream.{pieces, pieces_after, stream_of}
-use Rattle.h265_model.specs.Script.{is_cut}
-use Rattle.h265_model.specs.Report.{report_text}
-use Rattle.h265_model.specs.Histories.{IsLawful, Merges, cuts, paints, takes, take_numbers}
-use Rattle.h265_model.specs.Headline.{IsPlayed, IsRecorded, IsCutShort, report_of}
-use Rattle.h265_model.specs.Files.{Files, file_at, IsPrefix, WhereTold}
-use Rattle.h265_model.specs.FileLaws.{told_on, file_at-insert}
-use Rattle.h265_laws.proofs.PlayLaws.{each_picture_is_raster}
+use Rattle.recorder_model.specs.Script.{is_cut}
+use Rattle.recorder_model.specs.Report.{report_text}
+use Rattle.recorder_model.specs.Histories.{IsLawful, Merges, cuts, paints, takes, take_numbers}
+use Rattle.recorder_model.specs.Headline.{IsPlayed, IsRecorded, IsCutShort, report_of}
+use Rattle.recorder_model.specs.Files.{Files, file_at, IsPrefix, WhereTold}
+use Rattle.recorder_model.specs.FileLaws.{told_on, file_at-insert}
+use Rattle.recorder_laws.proofs.PlayLaws.{each_picture_is_raster}
 use Rattle.h265_laws.proofs.StreamLaw.{each_stream_is_decoded}
 use Rattle.edges.specs.Shelf.{Creates}
 use Rattle.paint_script.specs.Spellable.{IsSpellable, AreSpellable}

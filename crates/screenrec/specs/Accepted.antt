@@ -1,10 +1,10 @@
 -- Which scripts are accepted, and by which status a call refuses them.
 use Rattle.std.specs.Prelude.{◌≡◌, ◌≤◌, ℕ, ◌+◌, List, [], ◌∷◌, length, take, count_by, sum_by, slice_index_or, Result, Ok, Err, OnOk, IsOk}
 use Rattle.std.specs.Borrow.{Bor}
-use Rattle.h265_model.specs.declared.line.Line.{Line}
-use Rattle.h265_model.specs.Script.{is_cut}
-use Rattle.h265_model.specs.Files.{Rose}
-use Rattle.h265_model.specs.Headline.{Refusal, TooLarge, BadPaint, Limit, scripts_of, scripts_after, most_lines, most_cuts}
+use Rattle.recorder_model.specs.declared.line.Line.{Line}
+use Rattle.recorder_model.specs.Script.{is_cut}
+use Rattle.recorder_model.specs.Files.{Rose}
+use Rattle.recorder_model.specs.Headline.{Refusal, TooLarge, BadPaint, Limit, scripts_of, scripts_after, most_lines, most_cuts}
 use Rattle.command_line.specs.Views.{texts}
 use Rattle.screenrec.specs.declared.outcome.Status.{Status}
 use Rattle.screenrec.specs.declared.outcome.Status.TheVariants as status

@@ -1,11 +1,11 @@
 -- One script alone: what stands once its file was accepted.
 use Rattle.std.specs.Prelude.{◌≡◌, ℕ, ◌++◌, List, [], ◌∷◌, Result, Ok, Err}
-use Rattle.h265_model.specs.declared.entry.Entry.{Entry}
-use Rattle.h265_model.specs.declared.line.Line.{Line}
-use Rattle.h265_model.specs.Words.{SerialWords}
-use Rattle.h265_model.specs.Histories.{own_order}
-use Rattle.h265_model.specs.Files.{Files, IsPrefix}
-use Rattle.h265_model.specs.Headline.{report_of}
+use Rattle.recorder_model.specs.declared.entry.Entry.{Entry}
+use Rattle.recorder_model.specs.declared.line.Line.{Line}
+use Rattle.recorder_model.specs.Words.{SerialWords}
+use Rattle.recorder_model.specs.Histories.{own_order}
+use Rattle.recorder_model.specs.Files.{Files, IsPrefix}
+use Rattle.recorder_model.specs.Headline.{report_of}
 use Rattle.edges.specs.declared.sink.WriteError.{WriteError}
 use Rattle.edges.specs.declared.sink.WriteError.TheVariants as write
 use Rattle.screenrec.specs.declared.outcome.Status.{Status}

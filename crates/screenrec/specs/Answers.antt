@@ -1,6 +1,6 @@
 -- The counts of a call, and when a fault may be answered.
 use Rattle.std.specs.Prelude.{◌≡◌, ℕ, ◌≤◌, List}
-use Rattle.h265_model.specs.Files.{Rose}
+use Rattle.recorder_model.specs.Files.{Rose}
 use Rattle.screenrec.specs.declared.outcome.Status.{Status}
 use Rattle.screenrec.specs.declared.outcome.Status.TheVariants as status
 

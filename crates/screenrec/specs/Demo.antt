@@ -1,15 +1,16 @@
 -- What a demo of a number records.
 use Rattle.std.specs.Prelude.{◌≡◌, ℕ, ◌<◌, ◌/◌, ◌%◌, ◌++◌, List, [], length, map, flat_map}
-use Rattle.h265_model.specs.declared.entry.Entry.{Entry}
-use Rattle.h265_model.specs.declared.line.Line.{Line}
-use Rattle.h265_model.specs.declared.entry.Entry.TheVariants as entry
+use Rattle.recorder_model.specs.declared.entry.Entry.{Entry}
+use Rattle.recorder_model.specs.declared.line.Line.{Line}
+use Rattle.recorder_model.specs.declared.entry.Entry.TheVariants as entry
 use Rattle.h265_model.specs.Plain.{below}
-use Rattle.h265_model.specs.Words.{Settings}
-use Rattle.h265_model.specs.Raster.{Raster, pictures}
-use Rattle.h265_model.specs.Histories.{cuts, paints, script_length}
+use Rattle.h265_model.specs.Settings.{Settings}
+use Rattle.h265_model.specs.Raster.{Raster}
+use Rattle.recorder_model.specs.Painting.{pictures}
+use Rattle.recorder_model.specs.Histories.{cuts, paints, script_length}
 use Rattle.h265_model.specs.Stream.{stream_of}
-use Rattle.h265_model.specs.Files.{IsPrefix}
-use Rattle.h265_model.specs.Headline.{report_of}
+use Rattle.recorder_model.specs.Files.{IsPrefix}
+use Rattle.recorder_model.specs.Headline.{report_of}
 use Rattle.screen_gen.specs.Generated.{clients, line_count, generated}
 use Rattle.screenrec.specs.declared.outcome.Status.{Status}
 use Rattle.screenrec.specs.declared.outcome.Status.TheVariants as status

@@ -1,8 +1,8 @@
 -- How the writing of a stream ends.
 use Rattle.std.specs.Prelude.{◌≡◌, List, ℕ, Result, Ok, Err}
-use Rattle.h265_model.specs.declared.line.Line.{Line}
-use Rattle.h265_model.specs.Words.{Settings}
-use Rattle.h265_model.specs.Files.{Files}
+use Rattle.recorder_model.specs.declared.line.Line.{Line}
+use Rattle.h265_model.specs.Settings.{Settings}
+use Rattle.recorder_model.specs.Files.{Files}
 use Rattle.edges.specs.declared.sink.WriteError.{WriteError}
 use Rattle.screenrec.specs.declared.stream_file.Ending.{Ending}
 use Rattle.screenrec.specs.Stored.{EndsIn}

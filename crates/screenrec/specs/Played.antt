@@ -1,10 +1,10 @@
 -- A stage, and the lines that were played on it.
 use Rattle.std.specs.Prelude.{◌≡◌, List, [], count_by}
-use Rattle.h265_model.specs.declared.line.Line.{Line}
-use Rattle.h265_model.specs.Words.{Settings}
-use Rattle.h265_model.specs.Script.{is_cut}
-use Rattle.h265_model.specs.Raster.{rasters_after}
-use Rattle.px_plane.specs.Planes.{ShowsLines}
+use Rattle.recorder_model.specs.declared.line.Line.{Line}
+use Rattle.h265_model.specs.Settings.{Settings}
+use Rattle.recorder_model.specs.Script.{is_cut}
+use Rattle.recorder_model.specs.Painting.{rasters_after}
+use Rattle.desk_surface.specs.Shown.{ShowsLines}
 use Rattle.desk_surface.specs.Damage.{IsFlagged}
 use Rattle.desk_state.specs.Replays.{part_of}
 use Rattle.picture_encoder.specs.Coded.{StandsFor}

@@ -1,12 +1,13 @@
 -- What the words `serial` and `record` promise. The two differ in the order of the clients' lines alone.
 use Rattle.std.specs.Prelude.{◌≡◌, ◌≢◌, ◌⊎◌, ℕ, ◌<◌, ◌++◌, List, [], ◌∷◌, length, take, Option, Some, None, Result, Ok, Err, IsOk}
-use Rattle.h265_model.specs.declared.entry.Entry.{Entry}
-use Rattle.h265_model.specs.declared.line.Line.{Line}
-use Rattle.h265_model.specs.Words.{Settings, SerialWords, RecordWords, Row, Record, Serial, Demo, Decode}
-use Rattle.h265_model.specs.Raster.{pictures}
-use Rattle.h265_model.specs.Histories.{IsLawful, Merges, own_order}
-use Rattle.h265_model.specs.Files.{Files, IsPrefix, file_at, Rose}
-use Rattle.h265_model.specs.Headline.{Refusal, TooLarge, BadPaint, Limit, scripts_of, contents, IsPlayed, IsRecorded, IsUntouched, IsCutShort, report_of}
+use Rattle.recorder_model.specs.declared.entry.Entry.{Entry}
+use Rattle.recorder_model.specs.declared.line.Line.{Line}
+use Rattle.recorder_model.specs.Words.{SerialWords, RecordWords, Row, Record, Serial, Demo, Decode}
+use Rattle.h265_model.specs.Settings.{Settings}
+use Rattle.recorder_model.specs.Painting.{pictures}
+use Rattle.recorder_model.specs.Histories.{IsLawful, Merges, own_order}
+use Rattle.recorder_model.specs.Files.{Files, IsPrefix, file_at, Rose}
+use Rattle.recorder_model.specs.Headline.{Refusal, TooLarge, BadPaint, Limit, scripts_of, contents, IsPlayed, IsRecorded, IsUntouched, IsCutShort, report_of}
 use Rattle.screenrec.specs.declared.outcome.Status.{Status}
 use Rattle.screenrec.specs.declared.outcome.Status.TheVariants as status
 use Rattle.screenrec.specs.declared.outcome.Form.{Form}

@@ -2,13 +2,13 @@
 use Rattle.std.specs.Prelude.{◌≡◌, ℕ, List, [], ◌∷◌, ◌++◌, length, None, Result, Ok, Err}
 use Rattle.std.specs.List.{last_or}
 use Rattle.std.specs.FinMap.{insert}
-use Rattle.h265_model.specs.declared.line.Line.{Line}
+use Rattle.recorder_model.specs.declared.line.Line.{Line}
 use Rattle.h265_model.specs.Plain.{joined}
-use Rattle.h265_model.specs.Words.{Settings}
-use Rattle.h265_model.specs.Raster.{raster, rasters_after}
+use Rattle.h265_model.specs.Settings.{Settings}
+use Rattle.recorder_model.specs.Painting.{raster, rasters_after}
 use Rattle.h265_model.specs.Stream.{pieces, picture_piece, stream_of}
-use Rattle.h265_model.specs.Files.{Files, file_at, IsPrefix}
-use Rattle.h265_model.specs.Headline.{IsCutShort}
+use Rattle.recorder_model.specs.Files.{Files, file_at, IsPrefix}
+use Rattle.recorder_model.specs.Headline.{IsCutShort}
 use Rattle.edges.specs.declared.sink.WriteError.{WriteError}
 use Rattle.edges.specs.declared.sink.WriteError.TheVariants as write
 

@@ -1,12 +1,13 @@
 -- Clients together: what stands once their files were accepted.
 use Rattle.std.specs.Prelude.{◌≡◌, ℕ, ◌+◌, ◌<◌, ◌^◌, ◌++◌, List, length, Bool, true, false, Ok}
 use Rattle.std.specs.FinMap.{insert}
-use Rattle.h265_model.specs.declared.entry.Entry.{Entry}
-use Rattle.h265_model.specs.declared.line.Line.{Line}
-use Rattle.h265_model.specs.Words.{Settings, RecordWords}
+use Rattle.recorder_model.specs.declared.entry.Entry.{Entry}
+use Rattle.recorder_model.specs.declared.line.Line.{Line}
+use Rattle.recorder_model.specs.Words.{RecordWords}
+use Rattle.h265_model.specs.Settings.{Settings}
 use Rattle.h265_model.specs.Raster.{Raster}
-use Rattle.h265_model.specs.Files.{Files, IsPrefix}
-use Rattle.h265_model.specs.Headline.{IsPlayed, IsCutShort, report_of}
+use Rattle.recorder_model.specs.Files.{Files, IsPrefix}
+use Rattle.recorder_model.specs.Headline.{IsPlayed, IsCutShort, report_of}
 use Rattle.recorder.specs.declared.record.RecordEnd.{RecordEnd}
 use Rattle.recorder.specs.declared.record.RecordEnd.TheVariants as end
 use Rattle.recorder.specs.Ends.{first_pieces}

@@ -1,10 +1,10 @@
 //! One script alone, recorded in its own order.
 ghost use Rattle.std.specs.Prelude.{◌≡◌, ◌≤◌, ℕ, [], ◌∷◌, map, length, IfOk};
 ghost use Rattle.std.specs.List.{range_with_len};
-ghost use Rattle.h265_model.specs.declared.entry.Entry.{Entry};
-ghost use Rattle.h265_model.specs.Files.{WhereTold, Rose};
-ghost use Rattle.h265_model.specs.Histories.{own_order};
-ghost use Rattle.h265_model.specs.Headline.{most_lines};
+ghost use Rattle.recorder_model.specs.declared.entry.Entry.{Entry};
+ghost use Rattle.recorder_model.specs.Files.{WhereTold, Rose};
+ghost use Rattle.recorder_model.specs.Histories.{own_order};
+ghost use Rattle.recorder_model.specs.Headline.{most_lines};
 ghost use Rattle.edges.specs.Causes.{HasWriteCause};
 ghost use Rattle.screenrec.specs.Answers.{counts, HasCauses, IsSilent};
 ghost use Rattle.screenrec.specs.Recording.{Does, serial_task, IsServed, RefusesTask, IsOfFile, LeavesTask, ReportsTask, IsComplete};
@@ -18,8 +18,9 @@ use crate::stream_file::write_stream;
 use crate::{Outcome, Status};
 use command_line::SerialWords;
 use edges::{Shelf, Sink, WriteError};
-use h265_model::{Entry, History, NoMemory};
+use h265_model::NoMemory;
 use paint_script::Script;
+use recorder_model::{Entry, History};
 use std::alloc::Global;
 
 // The script's lines in order, as entries of client 0.

@@ -1,11 +1,11 @@
 //! Generated scripts.
 ghost use Rattle.std.specs.Prelude.{◌≡◌, ◌≤◌, ◌<◌, ◌⊎◌, ◌+◌, ◌-◌, ◌^◌, ◌++◌, ◌∷◌, [], ℕ, List, length, IfOk, OnOk};
-ghost use Rattle.h265_model.specs.declared.line.Line.{Line};
-ghost use Rattle.h265_model.specs.Files.{WhereTold, Rose};
-ghost use Rattle.h265_model.specs.Words as table;
-ghost use Rattle.h265_model.specs.Words.{row_of};
-ghost use Rattle.h265_model.specs.Raster.{accepted_line};
-ghost use Rattle.h265_model.specs.Histories.{script_length};
+ghost use Rattle.recorder_model.specs.declared.line.Line.{Line};
+ghost use Rattle.recorder_model.specs.Files.{WhereTold, Rose};
+ghost use Rattle.recorder_model.specs.Words as table;
+ghost use Rattle.recorder_model.specs.Words.{row_of};
+ghost use Rattle.recorder_model.specs.Painting.{accepted_line};
+ghost use Rattle.recorder_model.specs.Histories.{script_length};
 ghost use Rattle.command_line.specs.Views.{texts, settings_view};
 ghost use Rattle.paint_script.specs.Spellable.{IsSpellable};
 ghost use Rattle.screen_gen.specs.Generated.{generated};
@@ -21,9 +21,10 @@ use crate::stream_file::line_at;
 use crate::{Outcome, Status};
 use command_line::{Row, Settings, read_words};
 use edges::{Sink, WriteError};
-use h265_model::{Entry, History, Line, NoMemory};
+use h265_model::NoMemory;
 use paint_script::Scripts;
 use px_plane::Size;
+use recorder_model::{Entry, History, Line};
 use screen_gen::generate;
 use std::alloc::Global;
 

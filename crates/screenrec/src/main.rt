@@ -15,10 +15,11 @@ mod together;
 
 pub use complaint::Complaint;
 pub use demo::run_demo;
-use edges::{DiskShelf, NoGate, StreamSink};
+use edges::{DiskShelf, StreamSink};
+use gate::NoGate;
 use h265_model::NoMemory;
-pub use h265_model::{Cause, LimitKind};
 pub use outcome::{Form, Outcome, Status};
+pub use recorder_model::{Cause, LimitKind};
 pub use recording::run;
 pub use serial::run_serial;
 use std::alloc::Global;

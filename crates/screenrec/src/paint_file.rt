@@ -1,10 +1,10 @@
 //! Clients' paint files, read and judged.
 ghost use Rattle.std.specs.Prelude.{◌≡◌, ◌≢◌, ◌≤◌, ◌<◌, ◌+◌, ℕ, length, count_by, IfOk, IfErr};
 ghost use Rattle.std.specs.List.{All};
-ghost use Rattle.h265_model.specs.Headline.{most_lines, most_cuts, contents};
-ghost use Rattle.h265_model.specs.Files.{WhereTold, file_at};
-ghost use Rattle.h265_model.specs.Script.{is_cut};
-ghost use Rattle.h265_model.specs.Words.{most_clients};
+ghost use Rattle.recorder_model.specs.Headline.{most_lines, most_cuts, contents};
+ghost use Rattle.recorder_model.specs.Files.{WhereTold, file_at};
+ghost use Rattle.recorder_model.specs.Script.{is_cut};
+ghost use Rattle.recorder_model.specs.Words.{most_clients};
 ghost use Rattle.command_line.specs.Views.{texts};
 ghost use Rattle.paint_script.specs.Spellable.{AreSpellable};
 ghost use Rattle.screenrec.specs.Accepted.{name_at, Accepts, AcceptsAll, AreFew, IsOfTheFile, IsOfReading, HasInputCause, HasRoomFor};
@@ -12,8 +12,8 @@ ghost use Rattle.screenrec.specs.Recording.{IsOfFile};
 
 use crate::Status;
 use edges::{ReadError, Shelf};
-use h265_model::LimitKind;
 use paint_script::{Script, ScriptError, Scripts, read_script};
+use recorder_model::LimitKind;
 use std::alloc::Global;
 
 /// The most bytes of a paint file.

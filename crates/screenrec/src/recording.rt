@@ -1,7 +1,7 @@
 //! Every row of words.
 ghost use Rattle.std.specs.Prelude.{◌≡◌};
-ghost use Rattle.h265_model.specs.Files.{WhereTold};
-ghost use Rattle.h265_model.specs.Words.{row_of};
+ghost use Rattle.recorder_model.specs.Files.{WhereTold};
+ghost use Rattle.recorder_model.specs.Words.{row_of};
 ghost use Rattle.command_line.specs.Views.{texts};
 ghost use Rattle.screenrec.specs.Answers.{counts, HasCauses, IsSilent};
 ghost use Rattle.screenrec.specs.Recording.{run_service, Answers, RefusesEmpty, NamesFile, Leaves, Reports, IsComplete, TellsDemo, IsCompleteDemo};
@@ -11,7 +11,8 @@ use crate::demo::serve_demo;
 use crate::together::serve_together;
 use crate::{Form, Outcome, Status};
 use command_line::{Row, read_words};
-use edges::{Gate, Shelf, Sink};
+use edges::{Shelf, Sink};
+use gate::Gate;
 use std::alloc::Global;
 use std::sync::Wait;
 use std::thread::Threads;

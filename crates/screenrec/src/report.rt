@@ -1,8 +1,8 @@
 //! What a recording reports.
 ghost use Rattle.std.specs.Prelude.{◌≡◌, IfOk};
 ghost use Rattle.std.specs.String.{string_bytes};
-ghost use Rattle.h265_model.specs.Files.{WhereTold};
-ghost use Rattle.h265_model.specs.Report.{report_text};
+ghost use Rattle.recorder_model.specs.Files.{WhereTold};
+ghost use Rattle.recorder_model.specs.Report.{report_text};
 ghost use Rattle.edges.specs.Causes.{HasWriteCause};
 ghost use Rattle.edges.specs.Sink.{Writes};
 

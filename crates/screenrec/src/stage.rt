@@ -1,9 +1,9 @@
 //! A desktop, and the encoder of the pictures that are cut of it.
 ghost use Rattle.std.specs.Prelude.{◌≡◌, ◌≤◌, ◌<◌, ◌^◌, ◌-◌, ◌+◌, ◌++◌, ◌∷◌, [], List, length, false, IfOk, OnOk};
-ghost use Rattle.h265_model.specs.declared.line.Line.{Line};
-ghost use Rattle.h265_model.specs.declared.line.Line.TheVariants as line;
-ghost use Rattle.h265_model.specs.Words as table;
-ghost use Rattle.h265_model.specs.Script.{is_cut};
+ghost use Rattle.recorder_model.specs.declared.line.Line.{Line};
+ghost use Rattle.recorder_model.specs.declared.line.Line.TheVariants as line;
+ghost use Rattle.recorder_model.specs.Words as table;
+ghost use Rattle.recorder_model.specs.Script.{is_cut};
 ghost use Rattle.command_line.specs.Views.{settings_view};
 ghost use Rattle.desk_surface.specs.Damage.{HasPixels};
 ghost use Rattle.screenrec.specs.Stored.{stream_after, cut_piece};
@@ -11,8 +11,9 @@ ghost use Rattle.screenrec.specs.Played.{HasPlayed, IsPlayed};
 
 use command_line::Settings;
 use desk_surface::Surface;
-use h265_model::{Line, NoMemory};
+use h265_model::NoMemory;
 use picture_encoder::Encoder;
+use recorder_model::Line;
 use std::alloc::Global;
 
 /// Paints lines on one desktop, and codes the pictures that they cut, on the caller's thread.

@@ -1,11 +1,11 @@
 //! The stream of a script's pictures, written to a file piece by piece.
 ghost use Rattle.std.specs.Prelude.{◌≡◌, ℕ, ◌+◌, ◌-◌, ◌^◌, ◌<◌, ◌≤◌, ◌++◌, ◌∷◌, [], List, IfOk, OnOk, length, slice_index_or};
 ghost use Rattle.std.specs.FinMap.{insert};
-ghost use Rattle.h265_model.specs.declared.line.Line.{Line};
-ghost use Rattle.h265_model.specs.declared.line.Line.TheVariants as line;
-ghost use Rattle.h265_model.specs.Files.{Files, WhereTold};
-ghost use Rattle.h265_model.specs.Words as table;
-ghost use Rattle.h265_model.specs.Headline.{most_lines};
+ghost use Rattle.recorder_model.specs.declared.line.Line.{Line};
+ghost use Rattle.recorder_model.specs.declared.line.Line.TheVariants as line;
+ghost use Rattle.recorder_model.specs.Files.{Files, WhereTold};
+ghost use Rattle.recorder_model.specs.Words as table;
+ghost use Rattle.recorder_model.specs.Headline.{most_lines};
 ghost use Rattle.edges.specs.Causes.{HasWriteCause};
 ghost use Rattle.paint_script.specs.Spellable.{IsSpellable, AreSpellable};
 ghost use Rattle.command_line.specs.Views.{settings_view};
@@ -16,8 +16,9 @@ ghost use Rattle.screenrec.specs.Endings.{ending_of, EndsAnew};
 use crate::stage::Stage;
 use command_line::Settings;
 use edges::{Shelf, WriteError};
-use h265_model::{Line, NoMemory};
+use h265_model::NoMemory;
 use paint_script::Script;
+use recorder_model::Line;
 use std::alloc::Global;
 
 /// How the writing of a stream ended, and the bytes of the pieces that were appended whole.

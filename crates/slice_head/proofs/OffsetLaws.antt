@@ -3,7 +3,7 @@ use Rattle.std.proofs.Common.{◌≡◌, ℕ, zero, suc, ◌+◌, ◌-◌, ◌*�
 use Rattle.std.specs.Prelude.{nat_lt}
 use Rattle.std.proofs.lemmas.Bool.Decides.{nat_tests}
 use Rattle.std.proofs.lemmas.List.{append-nil}
-use Rattle.h265_model.specs.Script.{◌>>-◌}
+use Rattle.h265_model.specs.Bits.{◌>>-◌}
 use Rattle.h265_model.specs.Bits.{bits, read_u, read_alignment, all_zero}
 use Rattle.h265_model.specs.Fields.{golomb, or_number, read_fields}
 use Rattle.h265_model.specs.SliceHead as specified

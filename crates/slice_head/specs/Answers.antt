@@ -1,6 +1,6 @@
 -- What the reader of headers answers, by the definition.
 use Rattle.std.specs.Prelude.{ℕ, Bool, List, [], ◌∷◌, ◌++◌, Result, Ok, Err, ◌≡◌}
-use Rattle.h265_model.specs.Script.{◌>>-◌}
+use Rattle.h265_model.specs.Bits.{◌>>-◌}
 use Rattle.h265_model.specs.Fields.{golomb, read_fields}
 use Rattle.h265_model.specs.SliceHead as specified
 use Rattle.h265_model.specs.SliceHead.{head_front, head_middle, read_poc}

@@ -4,7 +4,7 @@ use Rattle.std.specs.Prelude.{Option, Some, None, Result, Ok, Err, ◌==◌, byt
 use Rattle.std.proofs.lemmas.Bool.{cond-true}
 use Rattle.h265_model.specs.Plain.{Size, ctus, coded}
 use Rattle.h265_model.specs.Bits.{◌>>=◌ as and_then, bits, read_alignment}
-use Rattle.h265_model.specs.Script.{◌>>-◌}
+use Rattle.h265_model.specs.Bits.{◌>>-◌}
 use Rattle.h265_model.specs.Raster.{Raster, crop}
 use Rattle.h265_model.specs.NalUnits.{NalUnit}
 use Rattle.h265_model.specs.Fields.{Field, U, fixed, golomb, read_field, read_fields, read_trailing, or_number}

@@ -2,7 +2,7 @@
 use Rattle.std.proofs.Common.{◌≡◌, refl, ◌∙◌, ap, ℕ, zero, suc, ◌-◌, ◌/◌, ◌^◌, ◌<◌, ◌≤◌, Bool, true, false, cond, List, [], ◌++◌, length, Ok, append_assoc, length-append, arith}
 use Rattle.std.specs.Prelude.{nat_lt, nat_le, IsTrue, Result}
 use Rattle.std.proofs.lemmas.Bool.{lt-ltb, leb-false}
-use Rattle.h265_model.specs.Script.{◌>>-◌}
+use Rattle.h265_model.specs.Bits.{◌>>-◌}
 use Rattle.h265_model.specs.Bits.{bits, bytes, alignment, digits_up_to, digit_count, read_alignment}
 use Rattle.h265_model.specs.Fields.{Field, fields_bits, aligned_bits, read_fields, or_number}
 use Rattle.h265_model.specs.SliceHead.{Head, IsHead, address_bits, dependent_fields, segment_bits, read_segment_head}

@@ -3,7 +3,7 @@ use Rattle.std.proofs.Common.{◌≡◌, refl, ◌∙◌, ap, ℕ, Bool, true, f
 use Rattle.std.specs.Prelude.{nat_lt, ◌==◌, Result, Err}
 use Rattle.std.proofs.lemmas.Bool.{lt-ltb}
 use Rattle.h265_model.specs.Plain.{Size, coded}
-use Rattle.h265_model.specs.Script.{◌>>-◌}
+use Rattle.h265_model.specs.Bits.{◌>>-◌}
 use Rattle.h265_model.specs.Bits.{u, alignment}
 use Rattle.h265_model.specs.Fields.{U, fixed, fields_bits, read_field, read_fields, read_trailing}
 use Rattle.h265_model.specs.ParamSets.{vps_fields, pps_front, pps_back, pps_fields_of, set_unit, set_units, segments_flag, read_pps, read_sets}

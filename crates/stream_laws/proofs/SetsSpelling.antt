@@ -3,7 +3,7 @@ use Rattle.std.proofs.Common.{◌≡◌, refl, sym, ◌∙◌, ap, subst, ℕ, �
 use Rattle.std.specs.Prelude.{nat_lt, ◌==◌, Result, Err}
 use Rattle.std.proofs.lemmas.Bool.{ltb-true}
 use Rattle.h265_model.specs.Plain.{Size, coded, AreBytes}
-use Rattle.h265_model.specs.Script.{◌>>-◌}
+use Rattle.h265_model.specs.Bits.{◌>>-◌}
 use Rattle.h265_model.specs.Bits.{u, bits}
 use Rattle.h265_model.specs.NalUnits.{NalUnit}
 use Rattle.h265_model.specs.Fields.{U, fixed, fields_bits, read_element, read_field, read_fields, read_trailing}

@@ -3,7 +3,7 @@ use Rattle.std.proofs.Common.{◌≡◌, refl, ◌∙◌, ap, ℕ, ◌+◌, List
 use Rattle.std.specs.Prelude.{Option, Some, None}
 use Rattle.h265_model.specs.declared.extra.Extra.TheVariants.{Plain}
 use Rattle.h265_model.specs.Plain.{joined}
-use Rattle.h265_model.specs.Words.{Settings}
+use Rattle.h265_model.specs.Settings.{Settings}
 use Rattle.h265_model.specs.Raster.{Raster}
 use Rattle.h265_model.specs.NalUnits.{NalUnit, stream_bytes}
 use Rattle.h265_model.specs.Stream.{picture_piece, pieces_after, pieces, stream_of}

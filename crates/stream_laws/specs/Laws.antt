@@ -23,7 +23,7 @@ use Rattle.h265_model.specs.declared.leaf.Leaf.{Leaf}
 use Rattle.h265_model.specs.Slice.{row_code}
 use Rattle.h265_model.specs.Raster.{Raster}
 use Rattle.h265_model.specs.declared.extra.Extra.TheVariants.{Plain}
-use Rattle.h265_model.specs.Words.{Settings, is_size}
+use Rattle.h265_model.specs.Settings.{Settings, is_size}
 use Rattle.h265_model.specs.Stream.{stream_of}
 use Rattle.h265_model.specs.ExtraStream.{extra_stream}
 use Rattle.h265_model.specs.Decode.{decode}

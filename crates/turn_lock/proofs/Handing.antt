@@ -4,7 +4,7 @@ use Rattle.std.specs.Prelude.{slice_get}
 use mathlib.Core.Logic.{dite}
 use native.Mathlib.Decide.{ℕ_discrete}
 use Rattle.atomic_table.specs.Seated.{TableId}
-use Rattle.h265_model.specs.Setting.{Setting}
+use Rattle.recorder_model.specs.Setting.{Setting}
 use Rattle.turn_lock.specs.Turns.{none_made, starting, fresh_view, opening_view, without_first, only_first}
 use Rattle.turn_lock.specs.Standing.{Standing, standing, IsHandedOut}
 

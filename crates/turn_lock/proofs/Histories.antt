@@ -4,8 +4,8 @@ use Rattle.std.proofs.lemmas.List.Sums.{sum_by-append}
 use Rattle.std.proofs.Common.{◌≡◌, ◌≢◌, ◌⊎◌, ℕ, zero, suc, ◌+◌, ◌<◌, ◌≤◌, if◌then◌else◌, List, [], ◌∷◌, ◌++◌, length, true, false, Some, refl, sym, ap, ◌∙◌, inl, inr, ⊎_elim, arith, append_assoc, ◌==◌, eq-eqb, ne_eqb, nat_lt}
 use mathlib.Core.Logic.{dite}
 use native.Mathlib.Decide.{ℕ_discrete}
-use Rattle.h265_model.specs.declared.entry.Entry.{Entry}
-use Rattle.h265_model.specs.Turn.{author, entries_by}
+use Rattle.recorder_model.specs.declared.entry.Entry.{Entry}
+use Rattle.recorder_model.specs.Turn.{author, entries_by}
 use Rattle.turn_lock.specs.Turns.{made_by, one_more, times_in, none_made, longer, shorter, Begins}
 
 pub begins_same : (xs : List Entry) → Begins xs xs

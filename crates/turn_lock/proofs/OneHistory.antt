@@ -11,9 +11,9 @@ use native.Mathlib.Decide.{ℕ_discrete}
 use lib.ListN.{get_elem?}
 use Rattle.atomic_table.specs.Table as table
 use Rattle.h265_model.proofs.EachOnce.{occurs, occurs-append, permuted}
-use Rattle.h265_model.specs.declared.entry.Entry.{Entry}
-use Rattle.h265_model.specs.Setting.{Setting}
-use Rattle.h265_model.specs.Turn.{State, Held, Own, View, IsInRule, IsExact, IsAtHome, IsHeld, holds_it}
+use Rattle.recorder_model.specs.declared.entry.Entry.{Entry}
+use Rattle.recorder_model.specs.Setting.{Setting}
+use Rattle.recorder_model.specs.Turn.{State, Held, Own, View, IsInRule, IsExact, IsAtHome, IsHeld, holds_it}
 use Rattle.turn_lock.specs.declared.knowledge.Knowledge.{Knowledge}
 use Rattle.turn_lock.specs.Turns.{made_by, times_in, times, total_weight, Kept}
 use Rattle.turn_lock.specs.OneHistory.{own_of, view_of, views_of, home_of, IsOneHistory}

@@ -7,9 +7,9 @@ use native.Mathlib.Decide.{ℕ_discrete}
 use lib.ListN.{get_elem?}
 use Rattle.atomic_table.specs.Table.{State, Me, step, keeps, Allows, Splits, Joins, Final, Seen, opening}
 use Rattle.atomic_table.proofs.Lists.{at_set, set_else, at_longer, at_last}
-use Rattle.h265_model.specs.declared.entry.Entry.{Entry}
-use Rattle.h265_model.specs.Setting.{Setting}
-use Rattle.h265_model.specs.Turn.{entries_by}
+use Rattle.recorder_model.specs.declared.entry.Entry.{Entry}
+use Rattle.recorder_model.specs.Setting.{Setting}
+use Rattle.recorder_model.specs.Turn.{entries_by}
 use Rattle.turn_lock.specs.declared.knowledge.Knowledge.{Knowledge}
 use Rattle.turn_lock.specs.Turns.{made_by, none_made, times_in, tail_of, head_of, total_weight, longer, shorter, Fits, Agree, Kept, opening_view, without_first, only_first, lighter, noted, merged, spent, finds, compared, HasClosed, Begins}
 use Rattle.turn_lock.proofs.Histories.{begins_nil, begins_of, between, some_is, made_by-here, made_by-later, made_by-append, made_by-left, made_by-right, times_in-append, none_made-zero, none_made-has, none_made-times, longer_begins, shorter_begins, shorter_le, both_begin}

@@ -2,9 +2,9 @@
 use Rattle.std.specs.Prelude.{◌≡◌, ℕ, ◌+◌, ◌*◌, ◌^◌, ◌%◌, ◌<◌, ◌≤◌, ◌==◌, if◌then◌else◌, List, [], ◌∷◌, ◌++◌, length, Bool, true, false, Option, Some}
 use mathlib.Core.Option.{none}
 use Rattle.atomic_table.specs.Table.{State, Me, step, Allows, Splits, Joins, opening}
-use Rattle.h265_model.specs.declared.entry.Entry.{Entry}
-use Rattle.h265_model.specs.Setting.{Setting}
-use Rattle.h265_model.specs.Turn.{author}
+use Rattle.recorder_model.specs.declared.entry.Entry.{Entry}
+use Rattle.recorder_model.specs.Setting.{Setting}
+use Rattle.recorder_model.specs.Turn.{author}
 use Rattle.turn_lock.specs.declared.knowledge.Knowledge.{Knowledge}
 use Rattle.turn_lock.specs.Turns.{Kept, none_made, opening_view, Owns, looked, taken, returned, added, compared, lighter, noted, without_first, only_first, merged, spent}
 

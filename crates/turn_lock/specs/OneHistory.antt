@@ -2,9 +2,9 @@
 use Rattle.std.specs.Prelude.{ℕ, ◌==◌, List, [], ◌∷◌, map, slice_index, Bool, if◌then◌else◌, Option, Some, None}
 use Rattle.atomic_table.specs.Table as table
 use mathlib.Core.Option as maybe
-use Rattle.h265_model.specs.declared.entry.Entry.{Entry}
-use Rattle.h265_model.specs.Setting.{Setting}
-use Rattle.h265_model.specs.Turn.{State, Held, Own, View, Rule}
+use Rattle.recorder_model.specs.declared.entry.Entry.{Entry}
+use Rattle.recorder_model.specs.Setting.{Setting}
+use Rattle.recorder_model.specs.Turn.{State, Held, Own, View, Rule}
 use Rattle.turn_lock.specs.declared.knowledge.Knowledge.{Knowledge}
 
 abbrev pub own_of : ℕ × ℕ → Own

@@ -2,7 +2,7 @@
 use Rattle.std.specs.Prelude.{◌≡◌, ℕ, ◌+◌, ◌*◌, ◌<◌, List, [], ◌∷◌, length, true, false, Option, Some, None, slice_get}
 use Rattle.atomic_table.specs.Table.{Me}
 use Rattle.atomic_table.specs.Seated.{TableId}
-use Rattle.h265_model.specs.Setting.{Setting}
+use Rattle.recorder_model.specs.Setting.{Setting}
 use Rattle.turn_lock.specs.Turns.{fresh_view}
 use Rattle.turn_lock.specs.declared.knowledge.Knowledge.{Knowledge}
 

@@ -3,9 +3,9 @@ use Rattle.std.specs.Prelude.{◌≡◌, ◌≢◌, ◌⊎◌, ℕ, zero, suc, �
 use mathlib.Core.Option.{some, none}
 use lib.ListN.{get_elem?}
 use Rattle.atomic_table.specs.Table.{State, Me, Step}
-use Rattle.h265_model.specs.declared.entry.Entry.{Entry}
-use Rattle.h265_model.specs.Setting.{Setting}
-use Rattle.h265_model.specs.Turn.{author, entries_by, StartsWith}
+use Rattle.recorder_model.specs.declared.entry.Entry.{Entry}
+use Rattle.recorder_model.specs.Setting.{Setting}
+use Rattle.recorder_model.specs.Turn.{author, entries_by, StartsWith}
 use Rattle.turn_lock.specs.Settings.{no_setting}
 use Rattle.turn_lock.specs.declared.knowledge.Knowledge.{Knowledge}
 

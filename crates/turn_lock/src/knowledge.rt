@@ -1,5 +1,5 @@
 // What a pass or a note knows, as plain data.
-use h265_model::Entry;
+use recorder_model::Entry;
 use std::collections::LinkedList;
 use std::marker::Model;
 
@@ -7,7 +7,7 @@ use std::marker::Model;
 pub struct KnownSetting {}
 
 impl Model for KnownSetting {
-    ghost use Rattle.h265_model.specs.Setting.{Setting};
+    ghost use Rattle.recorder_model.specs.Setting.{Setting};
     ghost use Rattle.turn_lock.specs.Settings.{no_setting};
 
     ghost Value = { Setting };

@@ -8,7 +8,7 @@ ghost use Rattle.turn_lock.specs.Laws.{HoldsAtFirst, KeptByLoad, KeptByCompare, 
 use crate::knowledge::Knowledge;
 use crate::pass::{Note, Pass};
 use crate::turn::Turn;
-use h265_model::Told;
+use recorder_model::Told;
 
 /// The rule of a turn's table holds as the turn is made, and every kind of step on it keeps it, whatever the table then is: so it
 /// holds after every order of steps of any threads.

@@ -1,5 +1,5 @@
 ghost use Rattle.std.specs.Prelude.{◌≡◌, ◌+◌, ◌*◌, ◌^◌, ◌<◌, ◌≤◌, [], ◌∷◌, ◌++◌, ◌-◌, true, false, length, Some, vec_capacity, IfOk, IfErr};
-ghost use Rattle.h265_model.specs.Turn.{author};
+ghost use Rattle.recorder_model.specs.Turn.{author};
 ghost use Rattle.turn_lock.specs.Turns.{HasEntered, HasWaited, IsBusy, Owns, gives_back, gives_entry, lighter, noted, HasJoined, HasClosed, opening_view};
 ghost use Rattle.turn_lock.specs.Standing.{IsHandedOut};
 
@@ -8,7 +8,8 @@ use crate::pass::{Note, Pass};
 use crate::plays::{Add, Compare, Copy, HandOut, Look, Merge, OneHistory, Return, Take, Terms};
 use atomic_table::{Seat, Table};
 use crossbeam_utils::Backoff;
-use h265_model::{Entry, NoMemory, Told};
+use h265_model::NoMemory;
+use recorder_model::{Entry, Told};
 use std::alloc::Global;
 use std::marker::Model;
 use std::snapshot::Snapshot;

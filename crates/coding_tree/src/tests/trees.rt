@@ -1,6 +1,6 @@
 //! The items of random coding trees, from an independent model of the recorder in Python.
 ghost use Rattle.std.specs.Prelude.{◌≡◌, ◌<◌, ◌≤◌, ◌+◌, ◌*◌, ◌/◌, ◌%◌, ◌^◌, true, length, take, replicate, set, pos, IsTrue, IfSome};
-ghost use Rattle.h265_model.specs.Desk.{tile_count};
+ghost use Rattle.h265_model.specs.Tiles.{tile_count};
 ghost use Rattle.h265_model.specs.Plain.{coded};
 ghost use Rattle.h265_model.specs.Tree.{is_whole, IsMode, IsCodingUnit, IsTree, IsLawfulTree, AreAllowed};
 

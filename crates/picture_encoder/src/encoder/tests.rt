@@ -1,11 +1,11 @@
 //! Small pictures, whose pieces an independent model of the recorder in Python gave.
 ghost use Rattle.std.specs.Prelude.{◌≡◌, ◌<◌, ◌≤◌, ◌*◌, ◌-◌, ◌^◌, IsTrue, length};
 ghost use Rattle.std.specs.List.{All};
-ghost use Rattle.h265_model.specs.Desk.{tile_count};
+ghost use Rattle.h265_model.specs.Tiles.{tile_count};
 ghost use Rattle.px_plane.specs.Tiles.{IsJobOf};
 
 use super::Encoder;
-use edges::NoGate;
+use gate::NoGate;
 use h265_model::{Bytes, NoMemory, Numbers};
 use px_plane::{Job, Size};
 use std::alloc::Global;

@@ -1,12 +1,12 @@
 //! The rows of a picture, coded alone and by workers.
 ghost use Rattle.std.specs.Prelude.{◌≡◌, None, length};
 ghost use Rattle.std.specs.Arc.{arc_value};
-ghost use Rattle.h265_model.specs.Desk.{tile_count};
+ghost use Rattle.h265_model.specs.Tiles.{tile_count};
 ghost use Rattle.picture_encoder.specs.Planning.{IsTask};
 
 use super::picture_jobs;
 use crate::planning::Task;
-use edges::NoGate;
+use gate::NoGate;
 use px_plane::{Picture, Size};
 use row_workers::{rows_alone, run_rows};
 use std::alloc::Global;

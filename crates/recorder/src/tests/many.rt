@@ -5,10 +5,12 @@ ghost use Rattle.desk_state.specs.Standing.{most_entries};
 
 use super::mark;
 use crate::{Entry, NoMemory, RecordEnd, Recording, Session};
-use edges::{MemorySink, NoGate};
-use h265_model::{Line, Rect, Rgb};
+use edges::MemorySink;
+use gate::NoGate;
+use h265_model::{Rect, Rgb};
 use live_desk::{Scripts, Size};
 use paint_script::Script;
+use recorder_model::Line;
 use std::alloc::Global;
 use std::sync::Wait;
 use std::test::Fail;

@@ -1,6 +1,7 @@
 //! A demo. An independent model of the recorder in Python gave the length of its stream.
 use crate::{Status, run, run_demo};
-use edges::{CalmShelf, MemorySink, NoGate};
+use edges::{CalmShelf, MemorySink};
+use gate::NoGate;
 use std::test::Fail;
 
 const BYTES: u64 = 158_209;

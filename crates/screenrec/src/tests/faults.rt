@@ -1,8 +1,10 @@
 //! Recordings of two cuts over files in memory, with calls that fail, and scripts that are cut off.
 use super::digest;
 use crate::{Cause, Outcome, Status, run, run_serial};
-use edges::{MemoryShelf, MemorySink, NoGate};
-use h265_model::{Entry, NoMemory};
+use edges::{MemoryShelf, MemorySink};
+use gate::NoGate;
+use h265_model::NoMemory;
+use recorder_model::Entry;
 use std::alloc::Global;
 use std::test::Fail;
 

@@ -2,8 +2,9 @@
 ghost use Rattle.std.specs.Prelude.{◌<◌};
 
 use crate::{Status, run, run_serial};
-use edges::{CalmShelf, MemorySink, NoGate};
-use h265_model::Entry;
+use edges::{CalmShelf, MemorySink};
+use gate::NoGate;
+use recorder_model::Entry;
 use std::alloc::Global;
 use std::test::Fail;
 

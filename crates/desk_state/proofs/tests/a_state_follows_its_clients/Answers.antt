@@ -1,5 +1,5 @@
 use Rattle.std.proofs.Common.{◌≡◌, ℕ, [], length, refl, rules}
-use Rattle.h265_model.specs.Histories.{indexes_of}
+use Rattle.recorder_model.specs.Histories.{indexes_of}
 use Rattle.desk_state.proofs.tests.a_state_follows_its_clients.Goals as goal
 
 nothing : (client : ℕ) → length (indexes_of [] client) ≡ 0

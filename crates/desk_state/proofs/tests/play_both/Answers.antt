@@ -1,9 +1,9 @@
 use Rattle.std.proofs.Common.{◌≡◌, ◌+◌, ◌++◌, ◌∷◌, [], List, length, ap, ◌∙◌}
 use Rattle.std.proofs.lemmas.Bool.{ne_eqb}
-use Rattle.h265_model.specs.Turn.{State}
-use Rattle.h265_model.specs.declared.entry.Entry.{Entry}
-use Rattle.h265_model.specs.declared.entry.Entry.TheVariants.{Line}
-use Rattle.h265_model.specs.Histories.{indexes_of}
+use Rattle.recorder_model.specs.Turn.{State}
+use Rattle.recorder_model.specs.declared.entry.Entry.{Entry}
+use Rattle.recorder_model.specs.declared.entry.Entry.TheVariants.{Line}
+use Rattle.recorder_model.specs.Histories.{indexes_of}
 use Rattle.desk_state.proofs.Entries.{count_own, count_other}
 use Rattle.desk_state.proofs.tests.play_both.Goals as goal
 

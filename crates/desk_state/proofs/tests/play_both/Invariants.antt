@@ -1,5 +1,5 @@
 use Rattle.std.proofs.Common.{ℕ, ◌≡◌, ◌≢◌, length}
-use Rattle.h265_model.specs.Histories.{indexes_of}
+use Rattle.recorder_model.specs.Histories.{indexes_of}
 use Rattle.desk_state.proofs.tests.play_both.Given as goal
 
 abbrev pub invariant-loop-index : goal.invariant-loop-index

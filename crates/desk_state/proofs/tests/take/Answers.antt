@@ -1,8 +1,8 @@
 use Rattle.std.proofs.Common.{◌≡◌, ℕ, ◌++◌, ◌∷◌, [], Option, Some, None, MatchOption, IfSome, length, ap, ◌∙◌}
-use Rattle.h265_model.specs.Turn.{State}
-use Rattle.h265_model.specs.declared.entry.Entry.{Entry}
-use Rattle.h265_model.specs.declared.line.Job.{Job}
-use Rattle.h265_model.specs.Histories.{indexes_of, takes}
+use Rattle.recorder_model.specs.Turn.{State}
+use Rattle.recorder_model.specs.declared.entry.Entry.{Entry}
+use Rattle.h265_model.specs.declared.job.Job.{Job}
+use Rattle.recorder_model.specs.Histories.{indexes_of, takes}
 use Rattle.desk_state.specs.Standing.{HasTaken}
 use Rattle.desk_state.proofs.Entries.{count_take}
 use Rattle.desk_state.proofs.tests.take.Goals as goal

@@ -1,5 +1,5 @@
 use Rattle.std.proofs.Common.{◌≡◌, ℕ, ◌+◌, ◌-◌, ◌/◌, ◌%◌, ◌||◌, false, slice_index_or, ap, ◌∙◌, arith}
-use Rattle.h265_model.specs.declared.line.Rect.{Rect}
+use Rattle.h265_model.specs.declared.rect.Rect.{Rect}
 use Rattle.h265_model.specs.Plain.{ctus}
 use Rattle.desk_surface.specs.Damage.{is_between}
 use Rattle.desk_surface.proofs.Meets.{meets_between}

@@ -1,7 +1,7 @@
 use Rattle.std.proofs.Common.{◌≡◌, ℕ, List, [], ◌∷◌, ◌++◌, take, flat_map, get_or, ap, sym, ◌∙◌, arith}
 use Rattle.std.proofs.lemmas.List.{append-nil, take_more}
 use Rattle.std.proofs.lemmas.Grind.{flat_map-append}
-use Rattle.h265_model.specs.Desk.{tile_samples}
+use Rattle.h265_model.specs.Tiles.{tile_samples}
 use Rattle.px_plane.specs.Planes.{picture_of}
 use Rattle.desk_surface.proofs.samples.samples_of.Goals as goal
 

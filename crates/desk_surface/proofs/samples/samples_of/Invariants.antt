@@ -1,5 +1,5 @@
 use Rattle.std.proofs.Common.{◌≡◌, take, flat_map}
-use Rattle.h265_model.specs.Desk.{tile_samples}
+use Rattle.h265_model.specs.Tiles.{tile_samples}
 use Rattle.px_plane.specs.Planes.{picture_of}
 use Rattle.desk_surface.proofs.samples.samples_of.Given as goal
 

@@ -1,5 +1,5 @@
 use Rattle.std.proofs.Common.{[], rules}
-use Rattle.h265_model.specs.FileLaws.{file_at-insert}
+use Rattle.recorder_model.specs.FileLaws.{file_at-insert}
 use Rattle.edges.specs.Sunk.{is_inserted}
 use Rattle.edges.proofs.tests.store.Goals as goal
 

@@ -1,4 +1,4 @@
-use Rattle.h265_model.specs.Setting.{Setting}
+use Rattle.recorder_model.specs.Setting.{Setting}
 use Rattle.live_desk.proofs.Trial.{ready_last, ready_play}
 use Rattle.live_desk.proofs.tests.a_cut_without_memory_ends_the_desk.Goals as goal
 

@@ -1,5 +1,5 @@
 use Rattle.std.proofs.Common.{ap, ◌∙◌, arith}
-use Rattle.h265_model.specs.Setting.{Setting}
+use Rattle.recorder_model.specs.Setting.{Setting}
 use Rattle.turn_lock.specs.Standing.{Standing}
 use Rattle.live_desk.specs.Passes.{Client}
 use Rattle.live_desk.proofs.Trial.{ready_last, ready_before, ready_play, ready_try, same_take}

@@ -1,5 +1,5 @@
 use Rattle.std.proofs.Common.{◌==◌, ap}
-use Rattle.h265_model.specs.Script.{cut_of}
+use Rattle.recorder_model.specs.Script.{cut_of}
 use Rattle.paint_script.proofs.Splits.{HasFirst, split-first}
 use Rattle.paint_script.proofs.line.cut_line.Goals as goal
 

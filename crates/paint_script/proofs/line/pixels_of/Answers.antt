@@ -1,7 +1,7 @@
 use Rattle.std.proofs.Common.{◌≡◌, ◌∷◌, [], ◌+◌, ◌-◌, ◌*◌, ◌≤◌, ◌++◌, Some, None, length, take, drop, arith, sym, ap, ◌∙◌}
 use Rattle.std.proofs.lemmas.List.Elements.{All-push}
-use Rattle.h265_model.specs.Script.{colours, or_cause}
-use Rattle.h265_model.specs.declared.refusal.Cause.TheVariants.{BadColour}
+use Rattle.recorder_model.specs.Script.{colours, or_cause}
+use Rattle.recorder_model.specs.declared.refusal.Cause.TheVariants.{BadColour}
 use Rattle.paint_script.specs.Paint.{colour_of}
 use Rattle.paint_script.specs.Spellable.{IsSpellableColour}
 use Rattle.paint_script.proofs.Colours.{onto_colours, colours-more, colours-stop, colours-end, n_colours-some}

@@ -1,6 +1,6 @@
 use Rattle.std.proofs.Common.{◌≡◌, ◌*◌, drop, vec_len}
 use Rattle.std.specs.List.{All}
-use Rattle.h265_model.specs.Script.{colours}
+use Rattle.recorder_model.specs.Script.{colours}
 use Rattle.paint_script.specs.Spellable.{IsSpellableColour}
 use Rattle.paint_script.proofs.Colours.{onto_colours}
 use Rattle.paint_script.proofs.line.pixels_of.Given as goal

@@ -1,5 +1,5 @@
 use Rattle.std.proofs.Common.{◌≡◌, drop}
-use Rattle.h265_model.specs.Script.{all_digits}
+use Rattle.recorder_model.specs.Script.{all_digits}
 use Rattle.paint_script.proofs.number.all_digits.Given as goal
 
 abbrev pub invariant-loop-digit : goal.invariant-loop-digit

@@ -1,6 +1,6 @@
 use Rattle.std.proofs.Common.{◌≡◌, ◌≤◌, true, drop}
 use Rattle.std.specs.Str.Parse.{digits_value, digits_value_after}
-use Rattle.h265_model.specs.Script.{all_digits}
+use Rattle.recorder_model.specs.Script.{all_digits}
 use Rattle.paint_script.proofs.number.value_up_to.Given as goal
 
 abbrev pub invariant-loop-digit : goal.invariant-loop-digit

@@ -1,7 +1,7 @@
 use Rattle.std.proofs.Common.{◌≡◌, length, arith, sym, ◌∙◌, Ok, Err}
 use Rattle.std.proofs.lemmas.List.{length_push}
 use Rattle.std.proofs.lemmas.Bool.{eqb-true, eqb-false}
-use Rattle.h265_model.specs.Script.{line_of}
+use Rattle.recorder_model.specs.Script.{line_of}
 use Rattle.paint_script.proofs.Readings.{read-start, read-line, read-bad, read-end, read-open}
 use Rattle.paint_script.proofs.read.read_script.Goals as goal
 

@@ -1,6 +1,6 @@
 use Rattle.std.proofs.Common.{◌≡◌, ◌++◌, take}
 use Rattle.std.specs.Prelude.{flat_map}
-use Rattle.h265_model.specs.Script.{colour_text}
+use Rattle.recorder_model.specs.Script.{colour_text}
 use Rattle.paint_script.proofs.write.write_pixels.Given as goal
 
 abbrev pub invariant-loop-pixel : goal.invariant-loop-pixel

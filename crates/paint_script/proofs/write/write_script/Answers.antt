@@ -3,8 +3,8 @@ use Rattle.std.proofs.lemmas.List.{take_all}
 use Rattle.std.proofs.lemmas.Option.{slice_get-get_or, get_or_from_slice_get}
 use Rattle.std.specs.List.{slice_get}
 use Rattle.std.specs.Option.{option_copied}
-use Rattle.h265_model.specs.Script.{script_of, script_text, line_text}
-use Rattle.h265_model.specs.declared.line.Line.TheVariants.{Cut}
+use Rattle.recorder_model.specs.Script.{script_of, script_text, line_text}
+use Rattle.recorder_model.specs.declared.line.Line.TheVariants.{Cut}
 use Rattle.paint_script.specs.Spellable.{IsSpellable}
 use Rattle.paint_script.proofs.ReadBack.{script-read, script_text-nil, script_text-more, lent-some}
 use Rattle.paint_script.proofs.write.write_script.Goals as goal

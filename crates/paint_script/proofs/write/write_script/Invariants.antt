@@ -1,5 +1,5 @@
 use Rattle.std.proofs.Common.{◌≡◌, take}
-use Rattle.h265_model.specs.Script.{script_text}
+use Rattle.recorder_model.specs.Script.{script_text}
 use Rattle.paint_script.proofs.write.write_script.Given as goal
 
 abbrev pub invariant-loop-index : goal.invariant-loop-index

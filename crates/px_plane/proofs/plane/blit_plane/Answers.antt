@@ -1,9 +1,9 @@
 use Rattle.std.proofs.Common.{◌≡◌, ◌+◌, ◌*◌, ◌-◌, ◌≤◌, length, arith, rules, get_or, take, drop, ap, refl, ◌∙◌, ℕ, List}
 use Rattle.std.proofs.lemmas.List.{places, get_or-take, get_or-drop}
 use Rattle.std.proofs.lemmas.Nat.{mul-le}
-use Rattle.h265_model.specs.Lines.{black}
+use Rattle.h265_model.specs.Raster.{black}
 use Rattle.h265_model.specs.Raster.{component}
-use Rattle.h265_model.specs.declared.line.Rgb.{Rgb}
+use Rattle.h265_model.specs.declared.rgb.Rgb.{Rgb}
 use Rattle.px_plane.specs.Planes.{pixel_at}
 use Rattle.px_plane.proofs.Rows.{row_put, row_ends}
 use Rattle.px_plane.proofs.plane.blit_plane.Goals as goal

@@ -1,5 +1,5 @@
 use Rattle.std.proofs.Common.{◌≡◌, ℕ, ◌<◌, get_or}
-use Rattle.h265_model.specs.Lines.{black}
+use Rattle.h265_model.specs.Raster.{black}
 use Rattle.h265_model.specs.Raster.{component}
 use Rattle.px_plane.proofs.plane.blit_row.Given as goal
 

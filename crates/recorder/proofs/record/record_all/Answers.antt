@@ -1,5 +1,5 @@
 use Rattle.std.proofs.Common.{◌∷◌, [], List, length, ℕ, refl, sym, ap, ◌∙◌, subst, arith}
-use Rattle.h265_model.specs.Histories.{takes}
+use Rattle.recorder_model.specs.Histories.{takes}
 use Rattle.recorder.specs.Ends.{Ends, seen_pictures}
 use Rattle.recorder.proofs.Seen.{fresh_recorded, fresh_count, lawful_now}
 use Rattle.recorder.proofs.Streams.{IsPieceOf, count_taken, first_refused, stored_first, all_stored, ended_stored, missed_stored, refused_stored}

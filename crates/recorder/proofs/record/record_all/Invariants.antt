@@ -1,6 +1,6 @@
 use Rattle.std.proofs.Common.{◌≡◌, ◌≤◌}
-use Rattle.h265_model.specs.Files.{WhereTold}
-use Rattle.h265_model.specs.Histories.{takes}
+use Rattle.recorder_model.specs.Files.{WhereTold}
+use Rattle.recorder_model.specs.Histories.{takes}
 use Rattle.recorder.specs.Ends.{HasRecorded}
 use Rattle.recorder.specs.Jobs.{HasStored}
 use Rattle.recorder.proofs.record.record_all.Given as goal

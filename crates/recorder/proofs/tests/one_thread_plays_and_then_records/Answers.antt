@@ -1,4 +1,4 @@
-use Rattle.h265_model.specs.Setting.{Setting}
+use Rattle.recorder_model.specs.Setting.{Setting}
 use Rattle.live_desk.proofs.Trial.{ready_last, ready_before}
 use Rattle.recorder.proofs.tests.one_thread_plays_and_then_records.Goals as goal
 

@@ -1,6 +1,6 @@
 use Rattle.std.proofs.Common.{sym, ◌∙◌, ap, refl, ◌++◌, ◌∷◌, [], ℕ}
 use Rattle.rand_xoshiro.specs.SplitMix64.{mix_u64}
-use Rattle.h265_model.specs.declared.line.Rgb.{Rgb}
+use Rattle.h265_model.specs.declared.rgb.Rgb.{Rgb}
 use Rattle.screen_gen.specs.Generated.{colours, state_after, colour_of}
 use Rattle.screen_gen.proofs.Drawing.{state_more, colours_more}
 use Rattle.screen_gen.proofs.draw.draw_pixels.Goals as goal

@@ -1,7 +1,7 @@
 use Rattle.std.proofs.Common.{◌≡◌, ◌∙◌, ◌∷◌, [], ℕ, ap, map}
 use Rattle.std.specs.List.{range_with_len}
-use Rattle.h265_model.specs.declared.entry.Entry.TheVariants as entry
-use Rattle.h265_model.specs.Histories.{own_order}
+use Rattle.recorder_model.specs.declared.entry.Entry.TheVariants as entry
+use Rattle.recorder_model.specs.Histories.{own_order}
 use Rattle.screenrec.specs.Served.{serial_view}
 use Rattle.screenrec.proofs.AloneLaws.{whole_files, stopped_files}
 use Rattle.screenrec.proofs.alone.record_script.Goals as goal

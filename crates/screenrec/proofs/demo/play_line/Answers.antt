@@ -1,5 +1,5 @@
 use Rattle.std.proofs.Common.{◌≡◌, Ok, ◌++◌, ◌∷◌, [], ◌+◌, sym, ap, subst, length, arith}
-use Rattle.h265_model.specs.declared.line.Line.{Line}
+use Rattle.recorder_model.specs.declared.line.Line.{Line}
 use Rattle.screenrec.specs.Stored.{stream_after}
 use Rattle.screenrec.proofs.StoredLaws.{paints, paint_adds, paint_counts, cut_counts}
 use Rattle.screenrec.proofs.demo.play_line.Goals as goal

@@ -1,9 +1,9 @@
 use Rattle.std.proofs.Common.{◌≡◌, ℕ, ◌+◌, ◌%◌, ◌/◌, List, [], ◌∷◌, ◌++◌, length, map, refl, sym, ◌∙◌, ap, subst, arith}
-use Rattle.h265_model.specs.declared.entry.Entry.{Entry}
-use Rattle.h265_model.specs.declared.line.Line.{Line}
+use Rattle.recorder_model.specs.declared.entry.Entry.{Entry}
+use Rattle.recorder_model.specs.declared.line.Line.{Line}
 use Rattle.h265_model.specs.Plain.{below}
-use Rattle.h265_model.specs.Words as table
-use Rattle.h265_model.specs.Raster.{lines_of}
+use Rattle.recorder_model.specs.Words as table
+use Rattle.recorder_model.specs.Painting.{lines_of}
 use Rattle.screenrec.specs.Stored.{stream_after}
 use Rattle.screenrec.specs.Played.{HasPlayed}
 use Rattle.screenrec.specs.Demo.{turn_entry, demo_settings}

@@ -1,6 +1,6 @@
 use Rattle.std.proofs.Common.{◌≡◌, ◌≤◌, ◌<◌, ◌+◌, ◌*◌, ◌^◌, length, map}
 use Rattle.h265_model.specs.Plain.{below}
-use Rattle.h265_model.specs.Raster.{lines_of}
+use Rattle.recorder_model.specs.Painting.{lines_of}
 use Rattle.screenrec.specs.Stored.{stream_after}
 use Rattle.screenrec.specs.Played.{HasPlayed}
 use Rattle.screenrec.specs.Demo.{turn_entry, demo_settings}

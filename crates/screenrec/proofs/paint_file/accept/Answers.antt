@@ -1,7 +1,7 @@
 use Rattle.std.proofs.Common.{◌<◌, ◌≤◌, ◌+◌, length, arith}
 use Rattle.std.specs.Prelude.{count_by}
-use Rattle.h265_model.specs.Script.{is_cut}
-use Rattle.h265_model.specs.Headline.{most_bytes, most_lines, most_cuts}
+use Rattle.recorder_model.specs.Script.{is_cut}
+use Rattle.recorder_model.specs.Headline.{most_bytes, most_lines, most_cuts}
 use Rattle.screenrec.proofs.AcceptedLaws.{one_too_large, one_bad, many_lines, many_cuts, one_accepted}
 use Rattle.screenrec.proofs.paint_file.accept.Goals as goal
 

@@ -1,7 +1,7 @@
 use Rattle.std.proofs.Common.{◌≡◌, ◌≤◌, take, length, Ok}
 use Rattle.std.specs.List.{All}
-use Rattle.h265_model.specs.Files.{WhereTold}
-use Rattle.h265_model.specs.Headline.{contents, scripts_of, most_lines, most_cuts}
+use Rattle.recorder_model.specs.Files.{WhereTold}
+use Rattle.recorder_model.specs.Headline.{contents, scripts_of, most_lines, most_cuts}
 use Rattle.command_line.specs.Views.{texts}
 use Rattle.paint_script.specs.Spellable.{AreSpellable}
 use Rattle.screenrec.specs.Accepted.{all_lines, all_cuts}

@@ -1,6 +1,6 @@
 use Rattle.std.proofs.Common.{◌≡◌, ◌+◌, ◌++◌, ◌∷◌, [], take, sym, ◌∙◌, ap}
 use Rattle.std.proofs.lemmas.List.{take_more, take_all}
-use Rattle.h265_model.specs.declared.line.Line.{Line}
+use Rattle.recorder_model.specs.declared.line.Line.{Line}
 use Rattle.screenrec.proofs.StoredLaws.{told_all, told_stopped}
 use Rattle.screenrec.proofs.stream_file.write_pictures.Goals as goal
 

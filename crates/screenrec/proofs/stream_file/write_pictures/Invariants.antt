@@ -1,6 +1,6 @@
 use Rattle.std.proofs.Common.{◌≡◌, ◌≤◌, ◌<◌, ◌+◌, ◌*◌, ◌^◌, [], length, take}
 use Rattle.std.specs.FinMap.{insert}
-use Rattle.h265_model.specs.Files.{Files, WhereTold}
+use Rattle.recorder_model.specs.Files.{Files, WhereTold}
 use Rattle.screenrec.specs.Stored.{stream_after}
 use Rattle.screenrec.specs.Played.{HasPlayed}
 use Rattle.screenrec.proofs.stream_file.write_pictures.Given as goal

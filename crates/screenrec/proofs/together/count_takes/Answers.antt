@@ -1,5 +1,5 @@
 use Rattle.std.proofs.Common.{ℕ, ◌+◌, take, sym, ◌∙◌, ap, arith}
-use Rattle.h265_model.specs.Histories.{takes}
+use Rattle.recorder_model.specs.Histories.{takes}
 use Rattle.screenrec.proofs.TogetherLaws.{no_takes, takes_more}
 use Rattle.screenrec.proofs.together.count_takes.Goals as goal
 

@@ -1,5 +1,5 @@
 use Rattle.std.proofs.Common.{◌≡◌, ◌≤◌, take}
-use Rattle.h265_model.specs.Histories.{takes}
+use Rattle.recorder_model.specs.Histories.{takes}
 use Rattle.screenrec.proofs.together.count_takes.Given as goal
 
 abbrev pub invariant-loop-entry : goal.invariant-loop-entry

@@ -1,7 +1,7 @@
 use Rattle.std.proofs.Common.{◌≡◌, [], Option, rules, subst}
-use Rattle.h265_model.specs.Files.{Files, file_at, WhereTold}
-use Rattle.h265_model.specs.Raster.{pictures}
-use Rattle.h265_model.specs.Histories.{takes}
+use Rattle.recorder_model.specs.Files.{Files, file_at, WhereTold}
+use Rattle.recorder_model.specs.Painting.{pictures}
+use Rattle.recorder_model.specs.Histories.{takes}
 use Rattle.recorder.specs.Sessions.{all_cuts}
 use Rattle.screenrec.specs.Together.{EndsInFile}
 use Rattle.screenrec.proofs.FileParts.{sunk}

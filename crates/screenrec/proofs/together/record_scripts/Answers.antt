@@ -1,7 +1,7 @@
 use Rattle.std.proofs.Common.{ℕ, List, sym, subst}
-use Rattle.h265_model.specs.declared.entry.Entry.{Entry}
-use Rattle.h265_model.specs.declared.line.Line.{Line}
-use Rattle.h265_model.specs.Files.{WhereTold}
+use Rattle.recorder_model.specs.declared.entry.Entry.{Entry}
+use Rattle.recorder_model.specs.declared.line.Line.{Line}
+use Rattle.recorder_model.specs.Files.{WhereTold}
 use Rattle.edges.specs.Sunk.{is_made}
 use Rattle.recorder.specs.Sessions.{IsOrder}
 use Rattle.screenrec.specs.Served.{record_view}

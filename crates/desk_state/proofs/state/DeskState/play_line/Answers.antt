@@ -1,9 +1,9 @@
 use Rattle.std.proofs.Common.{◌≡◌, ◌<◌, ◌-◌, ◌^◌, [], true, length, refl, sym, subst, ap, ◌∙◌}
-use Rattle.h265_model.specs.declared.entry.Entry.TheVariants as entry
-use Rattle.h265_model.specs.declared.line.Line.TheVariants.{Cut}
-use Rattle.h265_model.specs.Script.{is_cut}
-use Rattle.h265_model.specs.Turn.{State}
-use Rattle.h265_model.specs.Histories.{IsLawful}
+use Rattle.recorder_model.specs.declared.entry.Entry.TheVariants as entry
+use Rattle.recorder_model.specs.declared.line.Line.TheVariants.{Cut}
+use Rattle.recorder_model.specs.Script.{is_cut}
+use Rattle.recorder_model.specs.Turn.{State}
+use Rattle.recorder_model.specs.Histories.{IsLawful}
 use Rattle.desk_state.specs.Standing.{IsNext, next_line}
 use Rattle.desk_state.specs.Inside.{state_of}
 use Rattle.desk_state.proofs.Lookups.{found, client_there, line_there, line_read, pixels_read, on_err}

@@ -1,7 +1,7 @@
 use Rattle.std.proofs.Common.{◌<◌, ◌-◌, ◌^◌, length, refl, sym, subst, ap}
-use Rattle.h265_model.specs.declared.entry.Entry.TheVariants as entry
-use Rattle.h265_model.specs.Turn.{State}
-use Rattle.h265_model.specs.Histories.{IsLawful}
+use Rattle.recorder_model.specs.declared.entry.Entry.TheVariants as entry
+use Rattle.recorder_model.specs.Turn.{State}
+use Rattle.recorder_model.specs.Histories.{IsLawful}
 use Rattle.desk_state.specs.Standing.{HasTaken}
 use Rattle.desk_state.specs.Inside.{state_of}
 use Rattle.desk_state.proofs.Accepted.{few_now, room_now, desk_from, desk_taken}

@@ -1,8 +1,11 @@
 use Rattle.std.proofs.Common.{rules, ◌≡◌, ℕ, ◌<◌, ◌^◌, false, map, flat_map, length, replicate, sym, ap, subst, ◌∙◌, arith}
 use Rattle.h265_model.specs.Plain.{Size, Picture, below}
-use Rattle.h265_model.specs.Raster.{raster, coded_picture}
-use Rattle.h265_model.specs.Desk.{tile_count, is_touched, touched_by, tile_samples, job_for}
-use Rattle.px_plane.specs.Planes.{picture_of, ShowsLines}
+use Rattle.h265_model.specs.Raster.{coded_picture}
+use Rattle.recorder_model.specs.Painting.{raster}
+use Rattle.recorder_model.specs.Desk.{is_touched, touched_by}
+use Rattle.h265_model.specs.Tiles.{tile_count, tile_samples, job_for}
+use Rattle.px_plane.specs.Planes.{picture_of}
+use Rattle.desk_surface.specs.Shown.{ShowsLines}
 use Rattle.px_plane.proofs.Shown.{in_limits, shown_is_coded}
 use Rattle.desk_surface.specs.Damage.{Painted, IsFlagged, raised}
 use Rattle.desk_surface.proofs.Marks.{flagged_none}

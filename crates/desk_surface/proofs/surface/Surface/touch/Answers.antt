@@ -2,7 +2,8 @@ use Rattle.std.proofs.Common.{◌≡◌, ℕ, ◌<◌, ◌||◌, ◌∙◌, ap, 
 use Rattle.std.specs.Vec.{with_items}
 use Rattle.std.proofs.lemmas.List.{with_items_is}
 use Rattle.h265_model.specs.Plain.{Size}
-use Rattle.h265_model.specs.Desk.{tile_count, meets_tile}
+use Rattle.recorder_model.specs.Desk.{meets_tile}
+use Rattle.h265_model.specs.Tiles.{tile_count}
 use Rattle.desk_surface.specs.Damage.{Painted, IsFlagged}
 use Rattle.desk_surface.proofs.Marks.{flagged_more}
 use Rattle.desk_surface.proofs.surface.Surface.touch.Goals as goal

@@ -1,7 +1,7 @@
 use Rattle.std.proofs.Common.{◌≡◌, ◌+◌, ◌++◌, ◌∷◌, [], ap, subst, ◌∙◌, length}
 use Rattle.std.specs.Prelude.{option_to_list}
 use Rattle.std.proofs.lemmas.List.{length-map}
-use Rattle.h265_model.specs.Setting.{Setting}
+use Rattle.recorder_model.specs.Setting.{Setting}
 use Rattle.turn_lock.specs.Standing.{IsHandedOut}
 use Rattle.live_desk.specs.Passes.{passes_of}
 use Rattle.live_desk.proofs.Fresh.{all_are, fresh_passes, is_recorder, is_opened}

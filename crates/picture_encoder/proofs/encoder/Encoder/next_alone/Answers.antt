@@ -1,7 +1,7 @@
 use Rattle.std.proofs.Common.{◌≡◌, ℕ, List, Bool, ◌+◌, [], ◌∷◌, ◌++◌, sym, ◌∙◌, ap, subst, length-append, arith}
 use Rattle.std.specs.Arc.{arc_value}
-use Rattle.h265_model.specs.Desk.{tile_count}
-use Rattle.h265_model.specs.Raster.{raster}
+use Rattle.h265_model.specs.Tiles.{tile_count}
+use Rattle.h265_model.specs.Raster.{black_raster}
 use Rattle.px_plane.specs.Planes.{Shows}
 use Rattle.picture_encoder.specs.Coded.{Coded, IsLaid, StandsFor}
 use Rattle.picture_encoder.specs.Planning.{AreFlagged, IsKept, piece_of}
@@ -26,7 +26,7 @@ returns-clause-coded c = λ before now stands turns.
     let kept = c.keep.ensures ∙ ap (λ (e : Coded). record e { count = e.count + 1; last = arc_value c.in_ok-now.now }) c.in_ok-now.ensures.same in
     subst (λ (e : Coded). StandsFor e (before ++ now ∷ [])) (sym kept) record {
       count = (let known = stands.count in omega (arith, length-append before (now ∷ [])));
-      last = subst (Shows (arc_value c.in_ok-now.now)) (sym (last_append (raster c.args.self.now.settings.size []) before now)) (c.in_ok-now.ensures.shows now turns);
+      last = subst (Shows (arc_value c.in_ok-now.now)) (sym (last_append (black_raster c.args.self.now.settings.size) before now)) (c.in_ok-now.ensures.shows now turns);
     }
 
 pub returns-clause-piece : goal.returns-clause-piece

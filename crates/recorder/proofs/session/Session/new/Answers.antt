@@ -1,6 +1,6 @@
 use Rattle.std.proofs.Common.{◌≡◌, ap, sym, ◌∙◌, subst, arith}
-use Rattle.h265_model.specs.Setting.{Setting}
-use Rattle.h265_model.specs.Words.{Settings}
+use Rattle.recorder_model.specs.Setting.{Setting}
+use Rattle.h265_model.specs.Settings.{Settings}
 use Rattle.turn_lock.specs.Standing.{Standing}
 use Rattle.live_desk.specs.Desks.{IsOpened}
 use Rattle.recorder.specs.Sessions.{all_cuts}

@@ -2,8 +2,8 @@ use Rattle.std.proofs.Common.{◌≡◌, ◌∙◌, subst, List, true, false}
 use Rattle.std.specs.List.{All, Any}
 use Rattle.live_desk.specs.Passes.{Client}
 use Rattle.recorder.proofs.Seen.{lawful_now}
-use Rattle.h265_model.specs.Raster.{pictures}
-use Rattle.h265_model.specs.Histories.{takes}
+use Rattle.recorder_model.specs.Painting.{pictures}
+use Rattle.recorder_model.specs.Histories.{takes}
 use Rattle.recorder.specs.Ends.{Ends}
 use Rattle.recorder.specs.Sessions.{IsOrder, Scripted, all_cuts}
 use Rattle.recorder.proofs.Orders.{finished, all_takes, is_order, all_taken, now_ended}

@@ -1,5 +1,5 @@
 use Rattle.std.proofs.Common.{ℕ, ◌<◌, ◌-◌, ◌^◌, [], sym, subst, refl}
-use Rattle.h265_model.specs.Raster.{raster, rasters_after}
+use Rattle.recorder_model.specs.Painting.{raster, rasters_after}
 use Rattle.screenrec.proofs.StageLaws.{job_fits, job_numbered, counted_so, job_leads, played_cut, piece_is}
 use Rattle.screenrec.proofs.stage.Stage.cut.Goals as goal
 

@@ -1,6 +1,6 @@
 use Rattle.std.proofs.Common.{arith, rules, true≢false, ◌≡◌, ◌<◌, ◌+◌, ◌*◌, ◌∷◌, ◌++◌, [], length, Some, sym, ap, ◌∙◌, subst, ℕ}
 use Rattle.atomic_table.specs.Table.{rest}
-use Rattle.h265_model.specs.Turn.{author}
+use Rattle.recorder_model.specs.Turn.{author}
 use Rattle.turn_lock.specs.Turns.{made_by, gives_entry}
 use Rattle.turn_lock.proofs.Steps.{adds_entry}
 use Rattle.turn_lock.proofs.turn.Turn.leave_with_entry.Goals as goal

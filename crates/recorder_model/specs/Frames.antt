@@ -1,6 +1,6 @@
 -- Pictures as one image after another in the binary PPM form.
 use Rattle.std.specs.Prelude.{ℕ, List, [], ◌∷◌, ◌++◌, flat_map, codes, decimal}
-use Rattle.h265_model.specs.declared.line.Rgb.{Rgb}
+use Rattle.h265_model.specs.declared.rgb.Rgb.{Rgb}
 use Rattle.h265_model.specs.Plain.{Size}
 use Rattle.h265_model.specs.Raster.{Raster}
 

@@ -3,26 +3,15 @@ use Rattle.std.specs.Prelude.{ℕ, ◌*◌, Bool, ◌&&◌, List, [], ◌∷◌,
 use Rattle.std.specs.List.{slice_split}
 use Rattle.h265_model.specs.Bits.{◌>>=◌}
 use Rattle.h265_model.specs.Plain.{Size}
-use Rattle.h265_model.specs.Script.{number_up_to}
+use Rattle.h265_model.specs.Settings.{Settings, most_side, is_size}
+use Rattle.recorder_model.specs.Script.{number_up_to}
 
 -- the limits
-abbrev pub most_side : ℕ
-most_side = 4096
-
-abbrev pub most_area : ℕ
-most_area = 8847360
-
 abbrev pub most_workers : ℕ
 most_workers = 64
 
 abbrev pub most_clients : ℕ
 most_clients = 64
-
--- how a recording is coded: its size, the effort, and how far IDR pictures stand apart
-pub record Settings : Type 0 where
-  pub size : Size
-  pub effort : ℕ
-  pub key : ℕ
 
 -- the words after `record`, `serial` and `decode`
 pub record RecordWords : Type 0 where
@@ -45,9 +34,6 @@ pub data Row : Type 0 where
   Serial : SerialWords → Row
   Demo : ℕ → Row
   Decode : DecodeWords → Row
-
-abbrev pub is_size : Size → Bool
-is_size s = nat_le 1 s.w && nat_le s.w most_side && nat_le 1 s.h && nat_le s.h most_side && nat_le (s.w * s.h) most_area
 
 abbrev pub size_parts : List (List ℕ) → Option Size
 size_parts (w ∷ h ∷ []) = do

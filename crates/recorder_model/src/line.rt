@@ -1,25 +1,8 @@
-//! Lines of a paint script, and jobs.
+//! Lines of a paint script.
 ghost use Rattle.std.specs.Prelude.{◌≡◌};
 
-use crate::{Bytes, Numbers};
+use h265_model::{Rect, Rgb};
 use std::marker::Model;
-
-/// A rectangle of places: where it begins, and its sides. All are in samples.
-#[derive(Clone, Copy, Debug, PartialEq, Eq)]
-pub struct Rect {
-    pub x: u32,
-    pub y: u32,
-    pub w: u32,
-    pub h: u32,
-}
-
-/// A colour of 8 bits a component.
-#[derive(Clone, Copy, Debug, PartialEq, Eq)]
-pub struct Rgb {
-    pub r: u8,
-    pub g: u8,
-    pub b: u8,
-}
 
 /// The pixels of a rectangle, in rows from the top.
 #[derive(Debug, Drop)]
@@ -29,7 +12,7 @@ pub struct Pixels {
 
 impl Model for Pixels {
     ghost use Rattle.std.specs.Prelude.{List};
-    ghost use Rattle.h265_model.specs.declared.line.Rgb.{Rgb};
+    ghost use Rattle.h265_model.specs.declared.rgb.Rgb.{Rgb};
 
     ghost Value = { List Rgb };
 
@@ -68,15 +51,4 @@ pub enum Line {
     Blit { rect: Rect, pixels: Pixels },
     /// Asks for a picture of the desktop as it is now.
     Cut,
-}
-
-/// What is to be coded of a cut picture.
-#[derive(Debug, Drop)]
-pub struct Job {
-    /// The picture's number, from 0.
-    pub number: u32,
-    /// Some tiles of 32 by 32 samples, by their numbers in rows from the top left.
-    pub tiles: Numbers,
-    /// 3072 samples for each listed tile: G, B, R, each in rows, 0 outside the desktop.
-    pub samples: Bytes,
 }

@@ -4,25 +4,29 @@ use Rattle.std.specs.Prelude.{count_by, not, ◌==◌, cond, slice_index_or, fol
 use Rattle.std.specs.List.{AllByRecursion, last_or, range_with_len}
 use Rattle.std.proofs.lemmas.Bool.Decides.{nat_tests}
 use Rattle.std.proofs.lemmas.List.{append-nil}
-use Rattle.h265_model.specs.declared.entry.Entry.{Entry}
-use Rattle.h265_model.specs.declared.entry.Entry.TheVariants as entry
-use Rattle.h265_model.specs.declared.line.Line.{Line}
-use Rattle.h265_model.specs.declared.line.Rgb.{Rgb}
-use Rattle.h265_model.specs.Lines.{black}
-use Rattle.h265_model.specs.declared.line.Line.TheVariants.{Fill, Blit, Cut}
+use Rattle.recorder_model.specs.declared.entry.Entry.{Entry}
+use Rattle.recorder_model.specs.declared.entry.Entry.TheVariants as entry
+use Rattle.recorder_model.specs.declared.line.Line.{Line}
+use Rattle.h265_model.specs.declared.rgb.Rgb.{Rgb}
+use Rattle.h265_model.specs.Raster.{black}
+use Rattle.recorder_model.specs.declared.line.Line.TheVariants.{Fill, Blit, Cut}
 use Rattle.h265_model.specs.Plain.{Size}
-use Rattle.h265_model.specs.Words.{Settings}
-use Rattle.h265_model.specs.Script.{is_cut}
-use Rattle.h265_model.specs.Raster.{Raster, IsRaster, IsColour, HasColours, raster, colour, repainted, paints as paints_place, rasters_after, lines_of, pictures, accepted_line}
-use Rattle.h265_model.specs.Histories.{own_order, cuts, paints, indexes_of, take_numbers, script_length, IsLawful}
-use Rattle.h265_model.specs.NalUnits.{stream_bytes}
-use Rattle.h265_model.specs.ParamSets.{param_units}
-use Rattle.h265_model.specs.Stream.{pieces, pieces_after, picture_piece}
+use Rattle.h265_model.specs.Settings.{Settings}
+use Rattle.recorder_model.specs.Script.{is_cut}
+use Rattle.h265_model.specs.Raster.{Raster, black_raster, IsRaster, IsColour, paints as paints_place}
+use Rattle.recorder_model.specs.Painting.{HasColours, raster, colour, repainted, rasters_after, lines_of, pictures, accepted_line}
+use Rattle.recorder_model.specs.Histories.{own_order, cuts, paints, indexes_of, take_numbers, script_length, IsLawful}
+use Rattle.h265_model.specs.Stream.{pieces}
 use Rattle.h265_model.proofs.Squares.{length_places, all_places}
-use Rattle.h265_laws.specs.Laws.{EachPictureIsRaster}
+use Rattle.recorder_laws.specs.Laws.{EachPictureIsRaster}
 use Rattle.h265_laws.proofs.Prefixes.{prefixes}
 
 -- ---- rasters
+
+-- what no line painted is black
+pub raster_of_none : (size : Size) → black_raster size ≡ raster size []
+unfolding raster colour
+raster_of_none size = refl
 
 pub rasters_after-append : (size : Size) (before xs ys : List Line) →
     rasters_after size before (xs ++ ys) ≡ rasters_after size before xs ++ rasters_after size (before ++ xs) ys
@@ -38,30 +42,6 @@ rasters_after-append size before (Cut ∷ xs) ys =
     ap (λ (l : List Raster). raster size before ∷ l)
     (rasters_after-append size (before ++ Cut ∷ []) xs ys
     ∙ ap (λ (l : List Line). rasters_after size (before ++ Cut ∷ []) xs ++ rasters_after size l ys) (append_assoc before (Cut ∷ []) xs))
-
--- ---- pieces
-
-pieces_after-append : (settings : Settings) (n : ℕ) (before : Option Raster) (ps : List Raster) (now : Raster) →
-    pieces_after settings n before (ps ++ now ∷ []) ≡ pieces_after settings n before ps ++ picture_piece settings (n + length ps) (last_or before ps) now ∷ []
-unfolding pieces_after
-pieces_after-append settings n before [] now =
-    let e : n + 0 ≡ n = omega arith in
-    ap (λ (m : ℕ). picture_piece settings m before now ∷ []) (sym e)
-pieces_after-append settings n before (p ∷ ps) now =
-    let e : (n + 1) + length ps ≡ n + length (p ∷ ps) = omega arith in
-    ap (λ (l : List (List ℕ)). picture_piece settings n before p ∷ l)
-    (pieces_after-append settings (n + 1) (Some p) ps now
-    ∙ ap (λ (m : ℕ). pieces_after settings (n + 1) (Some p) ps ++ picture_piece settings m (last_or (Some p) ps) now ∷ []) e)
-
--- one more picture is one more piece
-pub pieces-append : (settings : Settings) (ps : List Raster) (now : Raster) →
-    pieces settings (ps ++ now ∷ []) ≡ pieces settings ps ++ picture_piece settings (length ps) (last_or None ps) now ∷ []
-unfolding pieces
-pieces-append settings ps now =
-    let e : 0 + length ps ≡ length ps = omega arith in
-    ap (λ (l : List (List ℕ)). stream_bytes (param_units settings.size) ∷ l)
-    (pieces_after-append settings 0 None ps now
-    ∙ ap (λ (m : ℕ). pieces_after settings 0 None ps ++ picture_piece settings m (last_or None ps) now ∷ []) e)
 
 -- ---- a script in its own order
 

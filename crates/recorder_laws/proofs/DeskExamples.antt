@@ -2,16 +2,16 @@
 use Rattle.std.specs.Prelude.{◌≡◌, ℕ, false, List, [], ◌∷◌, ◌++◌, map, codes, Ok, Some, None, unwrap_or, refl}
 use Rattle.std.specs.Fmt.{digits}
 use Rattle.h265_model.specs.Plain.{below}
-use Rattle.h265_model.specs.declared.line.Line.{Line}
-use Rattle.h265_model.specs.declared.line.Line.TheVariants.{Fill, Blit, Cut}
-use Rattle.h265_model.specs.Script.{script_of, pieces_script, line_of, colours, number_up_to}
-use Rattle.h265_model.specs.Words.{Serial, Demo, row_of}
-use Rattle.h265_model.specs.Report.{report_text}
-use Rattle.h265_model.specs.Desk.{touched_by}
+use Rattle.recorder_model.specs.declared.line.Line.{Line}
+use Rattle.recorder_model.specs.declared.line.Line.TheVariants.{Fill, Blit, Cut}
+use Rattle.recorder_model.specs.Script.{script_of, pieces_script, line_of, colours, number_up_to}
+use Rattle.recorder_model.specs.Words.{Serial, Demo, row_of}
+use Rattle.recorder_model.specs.Report.{report_text}
+use Rattle.recorder_model.specs.Desk.{touched_by}
 use Rattle.h265_model.specs.Wave.{Jobs, Event, Claim, Sync, Code, Publish, Finish, new_wave, allows_row, inherited, row_bytes, results}
-use Rattle.h265_model.specs.Headline.{scripts_after, scripts_of}
-use Rattle.h265_model.specs.Histories.{own_order}
-use Rattle.h265_model.specs.Raster.{pictures, colour, raster, lines_of, rasters_after}
+use Rattle.recorder_model.specs.Headline.{scripts_after, scripts_of}
+use Rattle.recorder_model.specs.Histories.{own_order}
+use Rattle.recorder_model.specs.Painting.{pictures, colour, raster, lines_of, rasters_after}
 
 report_1 : report_text 1 0 4693 ≡ codes "pictures 1" ++ 10 ∷ codes "paints 0" ++ 10 ∷ codes "bytes 4693" ++ 10 ∷ []
 unfolding digits

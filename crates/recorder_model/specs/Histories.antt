@@ -1,11 +1,11 @@
 -- Histories of several clients' scripts.
 use Rattle.std.specs.Prelude.{◌≡◌, ℕ, ◌<◌, ◌≤◌, not, List, [], ◌∷◌, ◌++◌, length, count_by, ◌==◌, if◌then◌else◌, slice_index_or, map}
 use Rattle.std.specs.List.{range_with_len}
-use Rattle.h265_model.specs.declared.entry.Entry.{Entry}
-use Rattle.h265_model.specs.declared.entry.Entry.TheVariants as entry
-use Rattle.h265_model.specs.declared.line.Line.{Line}
-use Rattle.h265_model.specs.Script.{is_cut}
-use Rattle.h265_model.specs.Raster.{lines_of}
+use Rattle.recorder_model.specs.declared.entry.Entry.{Entry}
+use Rattle.recorder_model.specs.declared.entry.Entry.TheVariants as entry
+use Rattle.recorder_model.specs.declared.line.Line.{Line}
+use Rattle.recorder_model.specs.Script.{is_cut}
+use Rattle.recorder_model.specs.Painting.{lines_of}
 
 -- the indexes of a client's lines, in order
 unfoldable pub indexes_of : List Entry → ℕ → List ℕ

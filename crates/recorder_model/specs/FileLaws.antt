@@ -5,7 +5,7 @@ use Rattle.std.specs.Ordering.{nat_cmp, eq_by_cmp}
 use Rattle.std.specs.Cmp.{eq_by_cmp_equiv}
 use Rattle.std.specs.Cmp.Lexicographic.{slice_cmp, nat_list_cmp_total}
 use Rattle.std.specs.FinMap.{get, insert, remove, get-insert, get-remove, same_map, slice_cmp-IsAntisymmetric, nat_cmp-IsAntisymmetric}
-use Rattle.h265_model.specs.Files.{Files, file_at, WhereTold, Rose}
+use Rattle.recorder_model.specs.Files.{Files, file_at, WhereTold, Rose}
 
 pub file_at-insert : (files : Files) (name bytes : List ℕ) → file_at (insert files name bytes) name ≡ bytes
 file_at-insert files name bytes =

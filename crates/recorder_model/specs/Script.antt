@@ -2,13 +2,13 @@
 use Rattle.std.specs.Prelude.{ℕ, ◌+◌, ◌-◌, ◌*◌, ◌/◌, ◌%◌, Bool, true, false, not, ◌||◌, ◌&&◌, List, [], ◌∷◌, ◌++◌, length, flat_map, Option, Some, None, Result, Ok, Err, ◌==◌, nat_lt, nat_le, decimal, codes, bytes_eq, if◌then◌else◌}
 use Rattle.std.specs.List.{slice_split}
 use Rattle.std.specs.Str.Parse.{digits_value}
-use Rattle.h265_model.specs.declared.refusal.Cause.{Cause}
-use Rattle.h265_model.specs.declared.refusal.Cause.TheVariants.{NoLineFeed, UnknownCommand, WordCount, BadNumber, ZeroSize, TooManyPixels, BadColour}
-use Rattle.h265_model.specs.Bits.{◌>>=◌}
-use Rattle.h265_model.specs.declared.line.Rect.{Rect}
-use Rattle.h265_model.specs.declared.line.Rgb.{Rgb}
-use Rattle.h265_model.specs.declared.line.Line.{Line}
-use Rattle.h265_model.specs.declared.line.Line.TheVariants.{Fill, Blit, Cut}
+use Rattle.recorder_model.specs.declared.refusal.Cause.{Cause}
+use Rattle.recorder_model.specs.declared.refusal.Cause.TheVariants.{NoLineFeed, UnknownCommand, WordCount, BadNumber, ZeroSize, TooManyPixels, BadColour}
+use Rattle.h265_model.specs.Bits.{◌>>=◌, ◌>>-◌}
+use Rattle.h265_model.specs.declared.rect.Rect.{Rect}
+use Rattle.h265_model.specs.declared.rgb.Rgb.{Rgb}
+use Rattle.recorder_model.specs.declared.line.Line.{Line}
+use Rattle.recorder_model.specs.declared.line.Line.TheVariants.{Fill, Blit, Cut}
 
 -- the limits on a number, and on the pixels of a blit
 abbrev pub most_number : ℕ
@@ -104,11 +104,6 @@ rect_of x y w h = do
 abbrev pub or_cause : {A : Type 0} → Cause → Option A → Result A Cause
 or_cause cause None = Err cause
 or_cause cause (Some x) = Ok x
-
-infixl 10 ◌>>-◌
-abbrev pub ◌>>-◌ : {A B E : Type 0} → Result A E → (A → Result B E) → Result B E
-(Ok x) >>- f = f x
-(Err e) >>- f = Err e
 
 abbrev pub check : Cause → Bool → Result (Unit {0}) Cause
 check cause true = Ok tt

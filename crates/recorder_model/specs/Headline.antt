@@ -1,19 +1,20 @@
 -- What a recording promises.
 use Rattle.std.specs.Prelude.{◌≡◌, ℕ, ◌+◌, List, [], ◌∷◌, ◌++◌, length, map, take, count_by, Result, Ok, Err, nat_lt, slice_index_or, if◌then◌else◌}
 use Rattle.std.specs.FinMap.{insert}
-use Rattle.h265_model.specs.declared.entry.Entry.{Entry}
-use Rattle.h265_model.specs.declared.refusal.Cause.{Cause}
-use Rattle.h265_model.specs.declared.refusal.LimitKind.{LimitKind}
-use Rattle.h265_model.specs.declared.refusal.LimitKind.TheVariants.{Lines, Cuts}
-use Rattle.h265_model.specs.declared.line.Line.{Line}
-use Rattle.h265_model.specs.Script.{BadLine, script_of, is_cut, ◌>>-◌}
-use Rattle.h265_model.specs.Words.{Settings}
+use Rattle.recorder_model.specs.declared.entry.Entry.{Entry}
+use Rattle.recorder_model.specs.declared.refusal.Cause.{Cause}
+use Rattle.recorder_model.specs.declared.refusal.LimitKind.{LimitKind}
+use Rattle.recorder_model.specs.declared.refusal.LimitKind.TheVariants.{Lines, Cuts}
+use Rattle.recorder_model.specs.declared.line.Line.{Line}
+use Rattle.recorder_model.specs.Script.{BadLine, script_of, is_cut}
+use Rattle.h265_model.specs.Bits.{◌>>-◌}
+use Rattle.h265_model.specs.Settings.{Settings}
 use Rattle.h265_model.specs.Raster.{Raster}
-use Rattle.h265_model.specs.Histories.{IsLawful, Merges, cuts, paints, takes}
+use Rattle.recorder_model.specs.Histories.{IsLawful, Merges, cuts, paints, takes}
 use Rattle.h265_model.specs.Stream.{pieces, stream_of}
 use Rattle.h265_model.specs.Decode.{decode}
-use Rattle.h265_model.specs.Report.{report_text}
-use Rattle.h265_model.specs.Files.{Files, file_at, IsPrefix}
+use Rattle.recorder_model.specs.Report.{report_text}
+use Rattle.recorder_model.specs.Files.{Files, file_at, IsPrefix}
 use Rattle.h265_model.specs.Plain.{joined}
 
 -- ---- which files are accepted

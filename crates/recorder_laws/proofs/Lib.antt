@@ -1,0 +1,4 @@
+pub mod PlayLaws
+pub mod ScriptExamples
+pub mod DeskExamples
+pub mod FrameExamples

@@ -1,0 +1,12 @@
+pub mod Setting
+pub mod Script
+pub mod Words
+pub mod Painting
+pub mod Histories
+pub mod Files
+pub mod FileLaws
+pub mod Report
+pub mod Frames
+pub mod Desk
+pub mod Turn
+pub mod Headline
