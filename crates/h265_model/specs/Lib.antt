@@ -9,6 +9,7 @@ pub mod ParamSets
 pub mod SliceHead
 pub mod Engine
 pub mod Contexts
+pub mod SyntaxElements
 pub mod Code
 pub mod Choice
 pub mod Tree

@@ -12,6 +12,7 @@ use Rattle.h265_model.specs.declared.leaf.Kind.{Kind}
 use Rattle.h265_model.specs.declared.leaf.Kind.TheVariants.{Skip, Pcm, Intra}
 use Rattle.h265_model.specs.declared.leaf.Leaf.{Leaf}
 use Rattle.h265_model.specs.Plain.{Size, coded, leaf_with, context_bin, bypass_bin}
+use Rattle.h265_model.specs.SyntaxElements.{merge_flag, mvp_l0_flag, abs_mvd_greater0_flag, abs_mvd_greater1_flag, rqt_root_cbf}
 use Rattle.h265_model.specs.Engine.{Reader, ◌>>=◌, give, refuse, bin}
 use Rattle.h265_model.specs.Residual.{is_negative, signed}
 use Rattle.h265_model.specs.Binarise.{eg, bypass_bins, eg_read}
@@ -130,7 +131,7 @@ difference v p = vector (pos 4 *ℤ v.x -ℤ pos 4 *ℤ p.x) (pos 4 *ℤ v.y -�
 -- abs_mvd_greater1_flag, coded where the part isn't 0
 abbrev pub greater1_of : ℕ → List Item
 greater1_of zero = []
-greater1_of (suc n) = context_bin (nat_lt 0 n) 128 ∷ []
+greater1_of (suc n) = context_bin (nat_lt 0 n) abs_mvd_greater1_flag ∷ []
 
 -- abs_mvd_minus2, where the size is above 1 (EG1, 9.3.3), and mvd_sign_flag, where it is above 0
 abbrev pub size_items : ℕ → Bool → List Item
@@ -144,7 +145,7 @@ part_items v = size_items (nat_abs v) (is_negative v)
 -- mvd_coding: abs_mvd_greater0_flag of both parts, abs_mvd_greater1_flag of both, and the rest of each
 unfoldable pub difference_items : Vector → List Item
 difference_items d =
-    (context_bin (nat_lt 0 (nat_abs d.x)) 127 ∷ context_bin (nat_lt 0 (nat_abs d.y)) 127 ∷ [])
+    (context_bin (nat_lt 0 (nat_abs d.x)) abs_mvd_greater0_flag ∷ context_bin (nat_lt 0 (nat_abs d.y)) abs_mvd_greater0_flag ∷ [])
     ++ (greater1_of (nat_abs d.x) ++ (greater1_of (nat_abs d.y) ++ (part_items d.x ++ part_items d.y)))
 
 -- ---- which predictor is named: the one with the lesser sum of sizes. This rule is a choice of this project's own.
@@ -160,13 +161,13 @@ second_is_nearer v both = nat_lt (size_of (difference v both.1)) (size_of (diffe
 unfoldable pub move_items : Vector → Vector × Vector → List Item
 move_items v both =
     let second : Bool = second_is_nearer v both in
-    context_bin false 125 ∷ (difference_items (difference v (predictor second both)) ++ (context_bin second 126 ∷ context_bin false 129 ∷ []))
+    context_bin false merge_flag ∷ (difference_items (difference v (predictor second both)) ++ (context_bin second mvp_l0_flag ∷ context_bin false rqt_root_cbf ∷ []))
 
 -- ---- the same read
 
 abbrev pub greater1_if : Bool → Reader Bool
 greater1_if false = give false
-greater1_if true = bin (Context 128)
+greater1_if true = bin (Context abs_mvd_greater1_flag)
 
 abbrev pub size_read : Bool → Reader ℕ
 size_read false = give 1
@@ -182,8 +183,8 @@ part_read true greater1 = do
 
 unfoldable pub difference_read : Reader Vector
 difference_read = do
-  x_greater0 ← bin (Context 127)
-  y_greater0 ← bin (Context 127)
+  x_greater0 ← bin (Context abs_mvd_greater0_flag)
+  y_greater0 ← bin (Context abs_mvd_greater0_flag)
   x_greater1 ← greater1_if x_greater0
   y_greater1 ← greater1_if y_greater0
   x ← part_read x_greater0 x_greater1
@@ -220,7 +221,7 @@ whole_vector p d = do
 unfoldable pub vector_read : Vector × Vector → Reader Vector
 vector_read both = do
   d ← difference_read
-  second ← bin (Context 126)
+  second ← bin (Context mvp_l0_flag)
   whole_vector (predictor second both) d
 
 -- ---- units to be coded

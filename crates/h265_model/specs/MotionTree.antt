@@ -8,6 +8,7 @@ use Rattle.h265_model.specs.declared.leaf.Kind.TheVariants.{Skip, Pcm, Intra}
 use Rattle.h265_model.specs.declared.leaf.Leaf.{Leaf}
 use Rattle.h265_model.specs.declared.moves.Vector.{Vector}
 use Rattle.h265_model.specs.Plain.{Size, ctus, leaf_with, ctu_x, ctu_y}
+use Rattle.h265_model.specs.SyntaxElements.{cbf_cb, cbf_cr, cu_transquant_bypass_flag, pred_mode_flag, part_mode, intra_chroma_pred_mode, cbf_luma, merge_flag, rqt_root_cbf}
 use Rattle.h265_model.specs.Engine.{Reader, ◌>>=◌, give, refuse, bin, samples}
 use Rattle.h265_model.specs.Predict.{is_inside}
 use Rattle.h265_model.specs.Modes.{mode_read}
@@ -54,10 +55,10 @@ units_after before read = before ++ map moving_of read
 abbrev pub intra_read : List Moving → ℕ → ℕ → ℕ → Reader Content
 intra_read before x y log2 = do
   mode ← mode_read (candidates_at (leaves before) x y)
-  expect (Context 10) false (do
-    cb ← bin (Context 12)
-    cr ← bin (Context 12)
-    luma ← bin (Context 11)
+  expect (Context intra_chroma_pred_mode) false (do
+    cb ← bin (Context cbf_cb)
+    cr ← bin (Context cbf_cr)
+    luma ← bin (Context cbf_luma)
     first ← component_read log2 mode 0 luma
     second ← component_read log2 mode 1 cb
     third ← component_read log2 mode 2 cr
@@ -77,19 +78,19 @@ content_read before x y log2 = do
 
 -- part_mode, which an intra unit has at side 8 alone
 abbrev pub own_read : List Moving → ℕ → ℕ → ℕ → Reader Content
-own_read before x y log2 = if log2 == 3 then expect (Context 8) true (content_read before x y log2) else content_read before x y log2
+own_read before x y log2 = if log2 == 3 then expect (Context part_mode) true (content_read before x y log2) else content_read before x y log2
 
 -- a moved unit: part_mode at each side (PART_2Nx2N), merge_flag 0, the vector, and rqt_root_cbf 0 (7.3.8.5, 7.3.8.6)
 abbrev pub move_read : List Moving → ℕ → ℕ → ℕ → Reader Content
-move_read before x y log2 = expect (Context 8) true (expect (Context 125) false (do
+move_read before x y log2 = expect (Context part_mode) true (expect (Context merge_flag) false (do
   v ← vector_read (predictors before x y log2)
-  expect (Context 129) false (give (Moved v))))
+  expect (Context rqt_root_cbf) false (give (Moved v))))
 
 -- pred_mode_flag, in P slices
 abbrev pub coded_read : SliceKind → List Moving → ℕ → ℕ → ℕ → Reader Content
 coded_read I before x y log2 = own_read before x y log2
 coded_read P before x y log2 = do
-  intra ← bin (Context 7)
+  intra ← bin (Context pred_mode_flag)
   if intra then own_read before x y log2 else move_read before x y log2
 
 -- a copy needs its source in the coded picture
@@ -103,7 +104,7 @@ unit_with size x y log2 content =
 
 -- 7.3.8.5: cu_transquant_bypass_flag, cu_skip_flag, and what follows
 unfoldable pub coding_unit_read : SliceKind → Size → List Moving → ℕ → ℕ → ℕ → Reader (List ReadUnit)
-coding_unit_read kind size before x y log2 = expect (Context 0) true (do
+coding_unit_read kind size before x y log2 = expect (Context cu_transquant_bypass_flag) true (do
   skipped ← skip_read kind (leaves before) x y
   content ← if skipped then give (Copied (merge before x y log2)) else coded_read kind before x y log2
   unit_with size x y log2 content)

@@ -4,6 +4,7 @@ use Rattle.std.specs.List.{flat_map, filter, list_any, list_all}
 use Rattle.h265_model.specs.declared.Place.TheVariants.{Context, Bypass}
 use Rattle.h265_model.specs.declared.Item.{Item}
 use Rattle.h265_model.specs.Plain.{below, context_bin, bypass_bin, place_values}
+use Rattle.h265_model.specs.SyntaxElements.{last_sig_coeff_x_prefix, last_sig_coeff_y_prefix, coded_sub_block_flag, sig_coeff_flag, coeff_abs_level_greater1_flag, coeff_abs_level_greater2_flag}
 use Rattle.h265_model.specs.Engine.{Reader, ◌>>=◌, give, refuse, bin}
 use Rattle.h265_model.specs.Binarise.{tr, fl, remaining, bypass_bins, context_bins, tr_read, fl_read, remaining_read}
 use Rattle.h265_model.specs.Bits.{digit}
@@ -62,12 +63,12 @@ in_chroma s n = if s.component == 0 then 0 else n
 -- 9.3.4.2.3: last_sig_coeff_x_prefix, or y
 unfoldable pub last_context : ℕ → ℕ → Bool → ℕ → ℕ
 last_context component log2 vertical i =
-    (if vertical then 31 else 13)
+    (if vertical then last_sig_coeff_y_prefix else last_sig_coeff_x_prefix)
     + (if component == 0 then 3 * (log2 - 2) + (log2 - 1) / 4 + i / 2 ^ ((log2 + 1) / 4) else 15 + i / 2 ^ (log2 - 2))
 
 -- 9.3.4.2.4: coded_sub_block_flag, by the flags of the neighbours on the right and below
 unfoldable pub sub_block_context : ℕ → Bool → Bool → ℕ
-sub_block_context component right below = 49 + min 1 (digit right + digit below) + (if component == 0 then 0 else 2)
+sub_block_context component right below = coded_sub_block_flag + min 1 (digit right + digit below) + (if component == 0 then 0 else 2)
 
 -- 9.3.4.2.5: sigCtx within a sub-block
 abbrev pub by_distance : ℕ → ℕ
@@ -88,17 +89,17 @@ sig_added (suc c) log2 scan first = if log2 == 3 then 9 else 12
 -- 9.3.4.2.5: sig_coeff_flag at a place of a sub-block
 unfoldable pub sig_context : ℕ → ℕ → ℕ → ℕ → ℕ → ℕ → ℕ → Bool → Bool → ℕ
 sig_context component log2 scan sub_x sub_y x y right below =
-    (if component == 0 then 53 else 80)
+    (if component == 0 then sig_coeff_flag else sig_coeff_flag + 27)
     + (if sub_x + sub_y + x + y == 0 then 0
     else sig_within right below x y + sig_added component log2 scan (sub_x + sub_y == 0))
 
 -- 9.3.4.2.6: coeff_abs_level_greater1_flag
 unfoldable pub greater1_context : ℕ → ℕ → ℕ → ℕ
-greater1_context component set counter = 95 + 4 * set + min 3 counter + (if component == 0 then 0 else 16)
+greater1_context component set counter = coeff_abs_level_greater1_flag + 4 * set + min 3 counter + (if component == 0 then 0 else 16)
 
 -- 9.3.4.2.7: coeff_abs_level_greater2_flag
 unfoldable pub greater2_context : ℕ → ℕ → ℕ
-greater2_context component set = 119 + set + (if component == 0 then 0 else 4)
+greater2_context component set = coeff_abs_level_greater2_flag + set + (if component == 0 then 0 else 4)
 
 -- ---- levels in the order of coding: sub-blocks from the last of the scan to the first, and so in each
 

@@ -12,6 +12,7 @@ use Rattle.h265_model.specs.declared.leaf.Kind.{Kind}
 use Rattle.h265_model.specs.declared.leaf.Kind.TheVariants.{Skip, Pcm, Intra}
 use Rattle.h265_model.specs.declared.leaf.Leaf.{Leaf}
 use Rattle.h265_model.specs.Plain.{Size, Picture, coded, ctus, below, context_bin, terminate_bin, joined, ctu_x, ctu_y}
+use Rattle.h265_model.specs.SyntaxElements.{split_cu_flag, cu_skip_flag, cbf_cb, cbf_cr, cu_transquant_bypass_flag, pred_mode_flag, part_mode, intra_chroma_pred_mode, cbf_luma}
 use Rattle.h265_model.specs.Engine.{Reader, ◌>>=◌, give, refuse, bin, samples}
 use Rattle.h265_model.specs.Residual.{Shape, scan_kind, cbf, residual_items, residual_read, AreLevels}
 use Rattle.h265_model.specs.Modes.{candidates, mode_items, mode_read}
@@ -48,7 +49,7 @@ how_many test leaves x y = digit (passes test (left_of leaves x y)) + digit (pas
 
 -- 9.3.4.2.2: split_cu_flag, by the neighbours that are deeper than a block of this side
 unfoldable pub split_context : List Leaf → ℕ → ℕ → ℕ → ℕ
-split_context leaves x y log2 = 1 + how_many (λ leaf. nat_lt leaf.log2 log2) leaves x y
+split_context leaves x y log2 = split_cu_flag + how_many (λ leaf. nat_lt leaf.log2 log2) leaves x y
 
 abbrev pub is_skipped : Kind → Bool
 is_skipped Skip = true
@@ -57,7 +58,7 @@ is_skipped (Intra mode) = false
 
 -- 9.3.4.2.2: cu_skip_flag
 unfoldable pub skip_context : List Leaf → ℕ → ℕ → ℕ
-skip_context leaves x y = 4 + how_many (λ leaf. is_skipped leaf.kind) leaves x y
+skip_context leaves x y = cu_skip_flag + how_many (λ leaf. is_skipped leaf.kind) leaves x y
 
 -- 8.4.2, candIntraPredModeX: DC where there is no mode
 abbrev pub mode_of : Kind → ℕ
@@ -95,10 +96,10 @@ content_items source before leaf Pcm =
 content_items source before leaf (Intra mode) =
     terminate_bin false
     ∷ (mode_items mode (candidates_at before leaf.x leaf.y)
-    ++ (context_bin false 10
-    ∷ context_bin (cbf (source.levels leaf 1)) 12
-    ∷ context_bin (cbf (source.levels leaf 2)) 12
-    ∷ context_bin (cbf (source.levels leaf 0)) 11
+    ++ (context_bin false intra_chroma_pred_mode
+    ∷ context_bin (cbf (source.levels leaf 1)) cbf_cb
+    ∷ context_bin (cbf (source.levels leaf 2)) cbf_cr
+    ∷ context_bin (cbf (source.levels leaf 0)) cbf_luma
     ∷ (residual_if leaf.log2 mode 0 (source.levels leaf 0)
     ++ (residual_if leaf.log2 mode 1 (source.levels leaf 1)
     ++ residual_if leaf.log2 mode 2 (source.levels leaf 2)))))
@@ -110,10 +111,10 @@ in_P P list = list
 -- 7.3.8.5
 unfoldable pub coding_unit_items : SliceKind → Source → List Leaf → Leaf → List Item
 coding_unit_items kind source before leaf =
-    (context_bin true 0 ∷ in_P kind (context_bin (is_skipped leaf.kind) (skip_context before leaf.x leaf.y) ∷ []))
+    (context_bin true cu_transquant_bypass_flag ∷ in_P kind (context_bin (is_skipped leaf.kind) (skip_context before leaf.x leaf.y) ∷ []))
     ++ (if is_skipped leaf.kind then []
-    else in_P kind (context_bin true 7 ∷ [])
-    ++ ((if leaf.log2 == 3 then context_bin true 8 ∷ [] else [])
+    else in_P kind (context_bin true pred_mode_flag ∷ [])
+    ++ ((if leaf.log2 == 3 then context_bin true part_mode ∷ [] else [])
     ++ content_items source before leaf leaf.kind))
 
 -- items, the leaves coded after them, and the leaves still to come
@@ -283,10 +284,10 @@ component_read log2 mode component coded =
 abbrev pub intra_read : List Leaf → ℕ → ℕ → ℕ → Reader Content
 intra_read before x y log2 = do
   mode ← mode_read (candidates_at before x y)
-  expect (Context 10) false (do
-    cb ← bin (Context 12)
-    cr ← bin (Context 12)
-    luma ← bin (Context 11)
+  expect (Context intra_chroma_pred_mode) false (do
+    cb ← bin (Context cbf_cb)
+    cr ← bin (Context cbf_cr)
+    luma ← bin (Context cbf_luma)
     first ← component_read log2 mode 0 luma
     second ← component_read log2 mode 1 cb
     third ← component_read log2 mode 2 cr
@@ -303,11 +304,11 @@ content_read before x y log2 = do
   if pcm then pcm_read (2 ^ log2 * 2 ^ log2) else intra_read before x y log2
 
 abbrev pub part_mode_read : ℕ → Reader Content → Reader Content
-part_mode_read log2 read = if log2 == 3 then expect (Context 8) true read else read
+part_mode_read log2 read = if log2 == 3 then expect (Context part_mode) true read else read
 
 abbrev pub coded_read : SliceKind → List Leaf → ℕ → ℕ → ℕ → Reader Content
 coded_read I before x y log2 = part_mode_read log2 (content_read before x y log2)
-coded_read P before x y log2 = expect (Context 7) true (part_mode_read log2 (content_read before x y log2))
+coded_read P before x y log2 = expect (Context pred_mode_flag) true (part_mode_read log2 (content_read before x y log2))
 
 abbrev pub skip_read : SliceKind → List Leaf → ℕ → ℕ → Reader Bool
 skip_read I before x y = give false
@@ -315,7 +316,7 @@ skip_read P before x y = bin (Context (skip_context before x y))
 
 -- 7.3.8.5
 unfoldable pub coding_unit_read : SliceKind → List Leaf → ℕ → ℕ → ℕ → Reader (List ReadLeaf)
-coding_unit_read kind before x y log2 = expect (Context 0) true (do
+coding_unit_read kind before x y log2 = expect (Context cu_transquant_bypass_flag) true (do
   skipped ← skip_read kind before x y
   content ← if skipped then give Copied else coded_read kind before x y log2
   give (record { x = x; y = y; log2 = log2; content = content } ∷ []))

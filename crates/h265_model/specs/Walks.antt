@@ -9,6 +9,7 @@ use Rattle.h265_model.specs.declared.moves.MoveKind.{MoveKind}
 use Rattle.h265_model.specs.declared.moves.MoveKind.TheVariants as moves
 use Rattle.h265_model.specs.declared.moves.MoveLeaf.{MoveLeaf}
 use Rattle.h265_model.specs.Plain.{Size, ctus, below, context_bin, terminate_bin, joined, ctu_x, ctu_y}
+use Rattle.h265_model.specs.SyntaxElements.{cu_transquant_bypass_flag, pred_mode_flag, part_mode}
 use Rattle.h265_model.specs.Predict.{is_inside}
 use Rattle.h265_model.specs.Contexts.{row_start}
 use Rattle.h265_model.specs.Code.{code, contexts_after}
@@ -29,7 +30,7 @@ still_unit kind source before unit = coding_unit_items kind source (leaves befor
 -- a moved unit of a P slice: cu_transquant_bypass_flag, cu_skip_flag 0, pred_mode_flag 0, part_mode, and the vector with rqt_root_cbf
 unfoldable pub moved_unit : List Moving → MoveLeaf → Vector → List Item
 moved_unit before unit v =
-    (context_bin true 0 ∷ context_bin false (skip_context (leaves before) unit.x unit.y) ∷ context_bin false 7 ∷ context_bin true 8 ∷ [])
+    (context_bin true cu_transquant_bypass_flag ∷ context_bin false (skip_context (leaves before) unit.x unit.y) ∷ context_bin false pred_mode_flag ∷ context_bin true part_mode ∷ [])
     ++ move_items v (predictors before unit.x unit.y unit.log2)
 
 abbrev pub unit_of_kind : SliceKind → Source → List Moving → MoveLeaf → MoveKind → List Item
