@@ -2,6 +2,7 @@
 ghost use Rattle.std.specs.Prelude.{◌≡◌, ◌==◌, ◌++◌, ◌∷◌, [], true, if◌then◌else◌, List, OnOk};
 ghost use Rattle.h265_model.specs.declared.leaf.Leaf.{Leaf as TheLeaf};
 ghost use Rattle.h265_model.specs.Plain.{context_bin};
+ghost use Rattle.h265_model.specs.SyntaxElements.{pred_mode_flag};
 ghost use Rattle.h265_model.specs.Tree.{coding_unit_items, content_items, in_P, is_skipped, skip_context, IsAllowed};
 ghost use Rattle.bin_items.specs.Growth.{IsOpen, Writes};
 ghost use Rattle.pu_code.specs.Cells.{StandsFor, IsUnit};
@@ -40,7 +41,7 @@ fn write_skip_flag<S: BinSink>(
 // Writes pred_mode_flag, which P slices have: the unit isn't predicted from another picture.
 fn write_pred_mode<S: BinSink>(sink: &mut S, kind: SliceKind) -> Result<(), NoMemory>
     requires not_ended { IsOpen (S.phase sink.old) }
-    ensures taken { Writes (in_P kind (context_bin true 7 ∷ [])) (S.stands_for sink.old) (S.stands_for sink.new) result }
+    ensures taken { Writes (in_P kind (context_bin true pred_mode_flag ∷ [])) (S.stands_for sink.old) (S.stands_for sink.new) result }
     ensures not_ended { IsOpen (S.phase sink.new) }
 {
     match kind {

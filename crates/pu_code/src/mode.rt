@@ -1,6 +1,7 @@
 //! Candidates for a mode, and the bins of a mode.
 ghost use Rattle.std.specs.Prelude.{◌≡◌, ◌≢◌, ◌<◌, ◌≤◌, ◌∷◌, [], false};
 ghost use Rattle.h265_model.specs.Plain.{context_bin};
+ghost use Rattle.h265_model.specs.SyntaxElements.{prev_intra_luma_pred_flag};
 ghost use Rattle.h265_model.specs.Binarise.{bypass_bins, fl};
 ghost use Rattle.h265_model.specs.Modes as modes;
 ghost use Rattle.h265_model.specs.Modes.{mode_items, index_items, remainder_of, AreCandidates};
@@ -64,7 +65,7 @@ fn write_index<S: BinSink>(sink: &mut S, index: u32) -> Result<(), NoMemory>
 fn write_remainder<S: BinSink>(sink: &mut S, remainder: u32) -> Result<(), NoMemory>
     requires remainder { remainder < 32 }
     requires not_ended { IsOpen (S.phase sink.old) }
-    ensures taken { Writes (context_bin false 9 ∷ bypass_bins (fl 5 remainder)) (S.stands_for sink.old) (S.stands_for sink.new) result }
+    ensures taken { Writes (context_bin false prev_intra_luma_pred_flag ∷ bypass_bins (fl 5 remainder)) (S.stands_for sink.old) (S.stands_for sink.new) result }
     ensures not_ended { IsOpen (S.phase sink.new) }
 {
     sink.bin(Bin {
