@@ -92,7 +92,7 @@ escape_length p q (x ∷ list) = go (p == 0 && q == 0 && nat_le x 3) (escape_len
 
 -- ---- items of levels
 
-length_bypass : (bits : List Bool) → length (bypass_bins bits) ≡ length bits
+pub length_bypass : (bits : List Bool) → length (bypass_bins bits) ≡ length bits
 length_bypass bits = length-map bits bypass_bin
 
 length_contexts : (number : ℕ → ℕ) (i : ℕ) (bits : List Bool) → length (context_bins number i bits) ≡ length bits
@@ -404,7 +404,7 @@ length_content source before leaf (Intra mode) is side =
         → length (terminate_bin false ∷ (m ++ (w ∷ x ∷ y ∷ z ∷ (a ++ (b ++ c))))) ≤ 135100
     five m a b c w x y z hm ha hb hc = omega (arith, length-append m (w ∷ x ∷ y ∷ z ∷ (a ++ (b ++ c))), length-append a (b ++ c), length-append b c)
 
-length_unit : (kind : SliceKind) (source : Source) (before : List Leaf) (leaf : Leaf) → IsSource source → IsSide leaf.log2 → length (coding_unit_items kind source before leaf) ≤ 136000
+pub length_unit : (kind : SliceKind) (source : Source) (before : List Leaf) (leaf : Leaf) → IsSource source → IsSide leaf.log2 → length (coding_unit_items kind source before leaf) ≤ 136000
 unfolding coding_unit_items
 length_unit kind source before leaf is side = go kind (is_skipped leaf.kind) (leaf.log2 == 3)
   where
@@ -428,7 +428,7 @@ length_unit kind source before leaf is side = go kind (is_skipped leaf.kind) (le
 -- ---- trees and rows
 
 -- how many items a block has at most
-most_items : ℕ → ℕ
+pub most_items : ℕ → ℕ
 most_items zero = 136000
 most_items (suc depth) = 4 * most_items depth + 136001
 

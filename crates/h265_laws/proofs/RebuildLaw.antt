@@ -76,7 +76,7 @@ samples_are picture leaf component is = all_places (λ s. s < 256) (leaf_side le
 
 -- ---- one leaf
 
-third_of : {A : Type 0} (f : ℕ → A) (component : ℕ) (d : A) → component < 3 → get_or (f 0 ∷ f 1 ∷ f 2 ∷ []) component d ≡ f component
+pub third_of : {A : Type 0} (f : ℕ → A) (component : ℕ) (d : A) → component < 3 → get_or (f 0 ∷ f 1 ∷ f 2 ∷ []) component d ≡ f component
 third_of f zero d h = refl
 third_of f (suc zero) d h = refl
 third_of f (suc (suc zero)) d h = refl
@@ -102,7 +102,7 @@ block_back size prev now cur leaf component small is copy near = go leaf.kind re
         ∙ sums_back p (samples_in now leaf component) (length_prediction size now mode component leaf.x leaf.y leaf.log2 ∙ sym (length_samples now leaf component)) (samples_are now leaf component is))
 
 -- a sample of the block
-at_samples : (now : Picture) (leaf : Leaf) (component x y : ℕ) → covers x y leaf ≡ true
+pub at_samples : (now : Picture) (leaf : Leaf) (component x y : ℕ) → covers x y leaf ≡ true
     → get_or (samples_in now leaf component) ((y - leaf.y) * leaf_side leaf + (x - leaf.x)) 0 ≡ now component x y
 at_samples now leaf component x y h =
     let w : IsWithin leaf.x leaf.y (leaf_side leaf) x y = covers_parts leaf x y h in
@@ -159,7 +159,7 @@ leaves_rebuilt size prev now cur before (leaf ∷ leaves) is copies placed agree
     subst (λ (l : List Leaf). Agree (with_leaves size prev next (reads_of (source_of size now) leaves)) now l) (append_assoc before (leaf ∷ []) leaves)
     (leaves_rebuilt size prev now next (before ++ leaf ∷ []) leaves is copies.1 placed.1 (one_rebuilt size prev now cur before leaf is copies.0 placed.0 agree))
 
-last_order : (size : Size) (x y : ℕ) → is_inside size x y ≡ true → coding_order size x y < ctus size.w * ctus size.h * 1024
+pub last_order : (size : Size) (x y : ℕ) → is_inside size x y ≡ true → coding_order size x y < ctus size.w * ctus size.h * 1024
 unfolding coding_order
 last_order size x y inside =
     let s : Splits (x % 32) (y % 32) = splits (x % 32) (y % 32) (omega arith) (omega arith) in

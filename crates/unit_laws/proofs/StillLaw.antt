@@ -16,7 +16,7 @@ use Rattle.h265_model.specs.Tree.{Source, Walk, walk_on, and_walk, quarters, cod
 use Rattle.h265_model.specs.Slice.{contexts_at, row_code}
 use Rattle.h265_model.specs.Motion.{Moving, leaves, still, still_kind, kind_as_coded, leaf_as_coded, as_coded, coded_after}
 use Rattle.h265_model.specs.Walks.{UnitItems, still_unit, unit_of_kind, move_unit, UnitWalk, then_walk, walk_and, quarters_of, nothing_of, one_of, is_next_leaf, walk_of, ctu_items_of, coded_first, ctu_with_end, ctus_items_of, row_items_of, contexts_of, code_of}
-use Rattle.stream_laws.specs.Laws.{EachRowIsStill}
+use Rattle.unit_laws.specs.Laws.{EachRowIsStill}
 
 -- ---- leaves and units
 

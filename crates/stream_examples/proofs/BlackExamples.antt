@@ -34,38 +34,20 @@ use Rattle.h265_model.specs.Stream.{slice_piece, picture_piece}
 use Rattle.h265_model.specs.Tree.{split_context, skip_context, candidates_at, coding_unit_items, ctu_items, source_of, items_of_row}
 use Rattle.h265_model.specs.Walks.{moved_unit, move_unit, ctu_items_of, row_items_of, segment_items_of, contexts_of}
 use Rattle.md5.specs.Md5.{block_words, rounds, compress, hash_after, digest_bytes, md5}
-
-abbrev size_of : ℕ → ℕ → Size
-size_of w h = record { w = w; h = h }
+use Rattle.stream_examples.specs.Laws.{BlackIsRead, size_of, rgb, black, piece_of}
 
 abbrev settings_of : ℕ → ℕ → ℕ → ℕ → Settings
 settings_of w h effort key = record { size = size_of w h; effort = effort; key = key }
 
-abbrev rgb : ℕ → ℕ → ℕ → Rgb
-rgb r g b = record { r = r; g = g; b = b }
-
 abbrev grey : ℕ → Raster
 grey n = replicate n (rgb 128 128 128)
-
-abbrev black : ℕ → Raster
-black n = replicate n (rgb 0 0 0)
-
--- a picture of samples alone
-abbrev samples_32x32 : List ℕ
-samples_32x32 = replicate 3072 0
-
-abbrev sets_32x32 : List ℕ
-sets_32x32 = 0x00 ∷ 0x00 ∷ 0x00 ∷ 0x01 ∷ 0x40 ∷ 0x01 ∷ 0x0C ∷ 0x01 ∷ 0xFF ∷ 0xFF ∷ 0x24 ∷ 0x08 ∷ 0x00 ∷ 0x00 ∷ 0x03 ∷ 0x00 ∷ 0xBE ∷ 0x08 ∷ 0x00 ∷ 0x00 ∷ 0x03 ∷ 0x00 ∷ 0x00 ∷ 0x9C ∷ 0xAC ∷ 0x09 ∷ 0x00 ∷ 0x00 ∷ 0x00 ∷ 0x01 ∷ 0x42 ∷ 0x01 ∷ 0x01 ∷ 0x24 ∷ 0x08 ∷ 0x00 ∷ 0x00 ∷ 0x03 ∷ 0x00 ∷ 0xBE ∷ 0x08 ∷ 0x00 ∷ 0x00 ∷ 0x03 ∷ 0x00 ∷ 0x00 ∷ 0x9C ∷ 0x90 ∷ 0x08 ∷ 0x41 ∷ 0x0B ∷ 0x2D ∷ 0x77 ∷ 0x26 ∷ 0x2E ∷ 0xF7 ∷ 0x4B ∷ 0x89 ∷ 0xB8 ∷ 0x08 ∷ 0x68 ∷ 0x00 ∷ 0x04 ∷ 0x00 ∷ 0x00 ∷ 0x00 ∷ 0x01 ∷ 0x44 ∷ 0x01 ∷ 0xC0 ∷ 0x71 ∷ 0x8A ∷ 0xA4 ∷ 0x80 ∷ []
-
-abbrev piece_of : List ℕ → List ℕ
-piece_of ending = sets_32x32 ++ (0x00 ∷ 0x00 ∷ 0x00 ∷ 0x01 ∷ 0x28 ∷ 0x01 ∷ 0xAF ∷ 0x80 ∷ 0x46 ∷ 0xC0 ∷ []) ++ escape samples_32x32 ++ ending
 
 -- a black picture of 32x32
 black_plain : extra_stream (settings_of 32 32 0 1) Plain (black 1024 ∷ []) ≡ piece_of (0xFE ∷ 0x80 ∷ [])
 unfolding digits_up_to u ue value_after bytes read_u read_ue_after read_alignment intra_cost pcm_cost is_copy modes_of leaf_plan choice closing put_bin code contexts_after start lps_range next row_start start_codes slice_step segment_step hash_step step read_units decode_all engine_start doublings renormalised context_read bypass_read terminate_read aligned samples is_done moved_units segment_piece extra_piece extra_pieces_after extra_pieces extra_stream fields_bits read_fields frame frames hash_of_planes candidates mode_items mode_read vector_before merge predictors has_source difference_items second_is_nearer move_items difference_read whole_part vector_read tried_vectors is_copy_by unit_plan moved_choice moved_choices moved_samples block_of rebuild slice_row_read segment_row_read row_of_bytes rows_read coding_unit_read ctu_read escape_after unescape_after stream_bytes payload forbidden next_start units_within units profile_tier_level vps_front vps_back sps_formats sps_front size_fields sps_back pps_fields pps_fields_of param_units set_units read_size read_sets coding_order neighbours is_filtered references angle inverse_angle predict colour raster lines_of rasters_after coded_picture stored_picture crop scan scan_kind last_context sub_block_context sig_context greater1_context greater2_context cbf in_coding_order in_rows residual_items residual_read contexts_at cut_after substreams head_front head_middle head_bits dependent_fields segment_bits read_offsets read_head read_segment_head slice_piece picture_piece split_context skip_context candidates_at coding_unit_items ctu_items source_of items_of_row moved_unit move_unit ctu_items_of row_items_of segment_items_of contexts_of block_words rounds compress hash_after digest_bytes md5
 black_plain = refl
 
-black_back : decode_all (piece_of (0xFE ∷ 0x80 ∷ [])) ≡ Ok (size_of 32 32, black 1024 ∷ [])
+pub black_back : BlackIsRead
 unfolding digits_up_to u ue value_after bytes read_u read_ue_after read_alignment intra_cost pcm_cost is_copy modes_of leaf_plan choice closing put_bin code contexts_after start lps_range next row_start start_codes slice_step segment_step hash_step step read_units decode_all engine_start doublings renormalised context_read bypass_read terminate_read aligned samples is_done moved_units segment_piece extra_piece extra_pieces_after extra_pieces extra_stream fields_bits read_fields frame frames hash_of_planes candidates mode_items mode_read vector_before merge predictors has_source difference_items second_is_nearer move_items difference_read whole_part vector_read tried_vectors is_copy_by unit_plan moved_choice moved_choices moved_samples block_of rebuild slice_row_read segment_row_read row_of_bytes rows_read coding_unit_read ctu_read escape_after unescape_after stream_bytes payload forbidden next_start units_within units profile_tier_level vps_front vps_back sps_formats sps_front size_fields sps_back pps_fields pps_fields_of param_units set_units read_size read_sets coding_order neighbours is_filtered references angle inverse_angle predict colour raster lines_of rasters_after coded_picture stored_picture crop scan scan_kind last_context sub_block_context sig_context greater1_context greater2_context cbf in_coding_order in_rows residual_items residual_read contexts_at cut_after substreams head_front head_middle head_bits dependent_fields segment_bits read_offsets read_head read_segment_head slice_piece picture_piece split_context skip_context candidates_at coding_unit_items ctu_items source_of items_of_row moved_unit move_unit ctu_items_of row_items_of segment_items_of contexts_of block_words rounds compress hash_after digest_bytes md5
 black_back = refl
 

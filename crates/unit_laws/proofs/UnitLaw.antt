@@ -23,8 +23,8 @@ use Rattle.h265_model.specs.MotionTree.{Content, Copied, Moved, ReadUnit, vector
 use Rattle.h265_model.specs.Walks.{moved_unit, move_unit}
 use Rattle.h265_laws.proofs.Reading.{reads_as, reads_bin, reads_give}
 use Rattle.h265_laws.proofs.TreeLaw.{reads_content, reads_part_mode}
-use Rattle.stream_laws.specs.Laws.{IsShort, AreShort, EachUnitIsRead}
-use Rattle.stream_laws.proofs.MotionLaw.{reads_expect, reads_move_as}
+use Rattle.unit_laws.specs.Laws.{IsShort, AreShort, EachUnitIsRead}
+use Rattle.unit_laws.proofs.MotionLaw.{reads_expect, reads_move_as}
 use Rattle.stream_laws.proofs.OldTree.{Refines, content_as, own_refines}
 
 -- ---- short vectors

@@ -19,7 +19,7 @@ use Rattle.h265_model.specs.Tree.{expect}
 use Rattle.std.specs.Bool.{beq}
 use Rattle.h265_laws.proofs.Reading.{reads_as, reads_bin, reads_map, reads_give, reads_eg}
 use Rattle.h265_laws.proofs.ResidualLaw.{AreBins, reads_then, bypass_are, bins-append}
-use Rattle.stream_laws.specs.Laws.{IsShort, EachVectorIsRead}
+use Rattle.unit_laws.specs.Laws.{IsShort, EachVectorIsRead}
 
 -- ---- whole samples
 

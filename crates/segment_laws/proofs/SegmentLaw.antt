@@ -9,7 +9,7 @@ use Rattle.h265_model.specs.SliceHead.{Head, IsHead, address_bits, dependent_fie
 use Rattle.h265_model.proofs.ByteLaws.{bits-append, length-bits, length-bits-mod}
 use Rattle.h265_model.proofs.FieldLaws.{all_fit, read_fields-fields_bits, read_alignment-alignment, bits-aligned_bits}
 use Rattle.h265_laws.proofs.HeadLaws.{all_but, read_head-head_bits}
-use Rattle.stream_laws.specs.Laws.{EachSegmentHeadIsRead}
+use Rattle.segment_laws.specs.Laws.{EachSegmentHeadIsRead}
 
 -- a number is below the power of two with as many digits
 digits_hold : (n v : ℕ) → v < 2 ^ n → v < 2 ^ digits_up_to n v

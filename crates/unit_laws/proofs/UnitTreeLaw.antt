@@ -22,8 +22,8 @@ use Rattle.h265_model.proofs.ListParts.{all_append}
 use Rattle.h265_laws.proofs.Parts.{BeginsWithBin}
 use Rattle.h265_laws.proofs.Reading.{reads_as, reads_bin, reads_bind, reads_map, reads_give}
 use Rattle.h265_laws.proofs.TreeLaw.{begins-append, depth_side}
-use Rattle.stream_laws.specs.Laws.{IsShort, AreShort, CanStand, CanStandAll, unit_content, reads_after, IsOneUnit, AreFourParts, IsUnitTree, EachUnitTreeIsRead}
-use Rattle.stream_laws.proofs.UnitLaw.{units_are_read, merge_short}
+use Rattle.unit_laws.specs.Laws.{IsShort, AreShort, CanStand, CanStandAll, unit_content, reads_after, IsOneUnit, AreFourParts, IsUnitTree, EachUnitTreeIsRead}
+use Rattle.unit_laws.proofs.UnitLaw.{units_are_read, merge_short}
 
 -- ---- units one after another
 

@@ -1,0 +1,4 @@
+pub mod MotionLaw
+pub mod StillLaw
+pub mod UnitLaw
+pub mod UnitTreeLaw

@@ -1,0 +1,24 @@
+//! Laws over coding units, coding tree units and rows where blocks may move. Each function does nothing: its clause is the law.
+#![tactic(auto)]
+
+ghost use Rattle.unit_laws.specs.Laws.{EachVectorIsRead, EachUnitIsRead, EachUnitTreeIsRead, EachRowIsStill};
+
+/// Each vector that is written as a difference is read back.
+pub fn each_vector_is_read()
+    ensures { EachVectorIsRead }
+{}
+
+/// Each coding unit is read back where blocks may move.
+pub fn each_unit_is_read()
+    ensures { EachUnitIsRead }
+{}
+
+/// Each coding tree unit is read back where blocks may move.
+pub fn each_unit_tree_is_read()
+    ensures { EachUnitTreeIsRead }
+{}
+
+/// Rows without moved units are those of streams in which nothing moves.
+pub fn each_row_is_still()
+    ensures { EachRowIsStill }
+{}
