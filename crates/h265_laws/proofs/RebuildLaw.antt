@@ -83,7 +83,7 @@ third_of f (suc (suc zero)) d h = refl
 third_of f (suc (suc (suc n))) d h = absurd (omega arith)
 
 -- the block that is laid in is the picture's
-block_back : (size : Size) (prev now cur : Picture) (leaf : Leaf) (component : ℕ) → component < 3 → IsPicture now → IsCopy prev now leaf
+pub block_back : (size : Size) (prev now cur : Picture) (leaf : Leaf) (component : ℕ) → component < 3 → IsPicture now → IsCopy prev now leaf
     → ((qx qy : ℕ) → is_available size leaf.x leaf.y qx qy ≡ true → cur component qx qy ≡ now component qx qy)
     → block_of size prev cur leaf (content_of (source_of size now) leaf leaf.kind) component ≡ samples_in now leaf component
 unfolding block_of source_of

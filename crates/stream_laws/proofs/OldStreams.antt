@@ -28,7 +28,7 @@ use Rattle.stream_laws.proofs.OldPictures.{rebuild_same}
 -- ---- slices
 
 -- the header of an IDR picture has the order count 0
-idr_order : (rbsp : List ℕ) (rows : ℕ) (found : Head × ℕ) → read_head rbsp true rows ≡ Ok found → found.0.poc ≡ 0
+pub idr_order : (rbsp : List ℕ) (rows : ℕ) (found : Head × ℕ) → read_head rbsp true rows ≡ Ok found → found.0.poc ≡ 0
 unfolding read_head
 idr_order rbsp rows found h = front (read_fields (head_front true) (bits rbsp)) h
   where
@@ -64,7 +64,7 @@ idr_order rbsp rows found h = front (read_fields (head_front true) (bits rbsp)) 
 abbrev pub now_whole : Decoded → Stand
 now_whole now = record { last = Some now; begun = None; ended = true }
 
-ok_is : {A E : Type 0} (r : Result A E) (x : A) → ok_of r ≡ Some x → r ≡ Ok x
+pub ok_is : {A E : Type 0} (r : Result A E) (x : A) → ok_of r ≡ Some x → r ≡ Ok x
 ok_is {A = A} {E = E} (Ok y) x h = ap back h
   where
     back : Option A → Result A E

@@ -2,3 +2,4 @@ pub mod MotionLaw
 pub mod StillLaw
 pub mod UnitLaw
 pub mod UnitTreeLaw
+pub mod UnitRows

@@ -20,12 +20,12 @@ use Rattle.unit_laws.specs.Laws.{EachRowIsStill}
 
 -- ---- leaves and units
 
-kind_still : (k : Kind) → kind_as_coded (still_kind k) ≡ k
+pub kind_still : (k : Kind) → kind_as_coded (still_kind k) ≡ k
 kind_still Skip = refl
 kind_still Pcm = refl
 kind_still (Intra mode) = refl
 
-leaf_still : (leaf : Leaf) → leaf_as_coded (still leaf) ≡ leaf
+pub leaf_still : (leaf : Leaf) → leaf_as_coded (still leaf) ≡ leaf
 leaf_still leaf = ap (λ (k : Kind). leaf_with leaf.x leaf.y leaf.log2 k) (kind_still leaf.kind)
 
 leaves-append : (a b : List Moving) → leaves (a ++ b) ≡ leaves a ++ leaves b
@@ -33,13 +33,13 @@ leaves-append [] b = refl
 leaves-append (u ∷ a) b = ap (λ (l : List Leaf). u.leaf ∷ l) (leaves-append a b)
 
 -- what a unit writes of a leaf that doesn't move
-abbrev WritesLeaves : SliceKind → Source → UnitItems → Type 0
+abbrev pub WritesLeaves : SliceKind → Source → UnitItems → Type 0
 WritesLeaves kind source unit = (before : List Moving) (leaf : Leaf) → unit before (still leaf) ≡ coding_unit_items kind source (leaves before) leaf
 
-still_writes : (kind : SliceKind) (source : Source) → WritesLeaves kind source (still_unit kind source)
+pub still_writes : (kind : SliceKind) (source : Source) → WritesLeaves kind source (still_unit kind source)
 still_writes kind source before leaf = ap (coding_unit_items kind source (leaves before)) (leaf_still leaf)
 
-move_writes : (kind : SliceKind) (source : Source) → WritesLeaves kind source (move_unit kind source)
+pub move_writes : (kind : SliceKind) (source : Source) → WritesLeaves kind source (move_unit kind source)
 unfolding move_unit
 move_writes kind source before leaf = go leaf.kind ∙ still_writes kind source before leaf
   where
@@ -138,36 +138,36 @@ walk_same kind size source unit u (suc depth) x y before before' left left' e g 
     (then_same _ _ _ _ (ap (λ (n : ℕ). context_bin false n ∷ []) flag) one)
     (then_same _ _ _ _ (ap (λ (n : ℕ). context_bin true n ∷ []) flag) split)
 
-ctu_same : (kind : SliceKind) (size : Size) (source : Source) (unit : UnitItems) → WritesLeaves kind source unit
+pub ctu_same : (kind : SliceKind) (size : Size) (source : Source) (unit : UnitItems) → WritesLeaves kind source unit
     → (before : List Moving) (before' ls : List Leaf) (ctu : ℕ) → leaves before ≡ before' → ctu_items_of unit size before (map still ls) ctu ≡ ctu_items kind size source before' ls ctu
 unfolding ctu_items_of ctu_items
 ctu_same kind size source unit u before before' ls ctu e = (walk_same kind size source unit u 2 (ctu_x size ctu) (ctu_y size ctu) before before' (map still ls) ls e refl).list
 
 -- ---- rows
 
-coded_same : (before : List Moving) (ls : List Leaf) → leaves (coded_after before (map still ls)) ≡ leaves before ++ ls
+pub coded_same : (before : List Moving) (ls : List Leaf) → leaves (coded_after before (map still ls)) ≡ leaves before ++ ls
 coded_same before [] = sym (append-nil (leaves before))
 coded_same before (leaf ∷ ls) =
     coded_same (before ++ as_coded before (still leaf) ∷ []) ls
     ∙ (ap (λ (b : List Leaf). b ++ ls) (leaves-append before (as_coded before (still leaf) ∷ []) ∙ ap (λ (l : Leaf). leaves before ++ l ∷ []) (leaf_still leaf))
     ∙ append_assoc (leaves before) (leaf ∷ []) ls)
 
-map-append : (a b : List Leaf) → map still (a ++ b) ≡ map still a ++ map still b
+pub map-append : (a b : List Leaf) → map still (a ++ b) ≡ map still a ++ map still b
 map-append [] b = refl
 map-append (x ∷ a) b = ap (λ (l : List MoveLeaf). still x ∷ l) (map-append a b)
 
-first_same : (n : ℕ) (ls : List (List Leaf)) → joined (take n (map (map still) ls)) ≡ map still (joined (take n ls))
+pub first_same : (n : ℕ) (ls : List (List Leaf)) → joined (take n (map (map still) ls)) ≡ map still (joined (take n ls))
 first_same zero ls = refl
 first_same (suc n) [] = refl
 first_same (suc n) (l ∷ ls) = ap (λ (rest : List MoveLeaf). map still l ++ rest) (first_same n ls) ∙ sym (map-append l (joined (take n ls)))
 
-at_same : (n : ℕ) (ls : List (List Leaf)) → get_or (map (map still) ls) n [] ≡ map still (get_or ls n [])
+pub at_same : (n : ℕ) (ls : List (List Leaf)) → get_or (map (map still) ls) n [] ≡ map still (get_or ls n [])
 at_same zero [] = refl
 at_same zero (l ∷ ls) = refl
 at_same (suc n) [] = refl
 at_same (suc n) (l ∷ ls) = at_same n ls
 
-flat_same : (f g : ℕ → List Item) → ((i : ℕ) → f i ≡ g i) → (ns : List ℕ) → flat_map f ns ≡ flat_map g ns
+pub flat_same : (f g : ℕ → List Item) → ((i : ℕ) → f i ≡ g i) → (ns : List ℕ) → flat_map f ns ≡ flat_map g ns
 flat_same f g e [] = refl
 flat_same f g e (n ∷ ns) = ap (λ (l : List Item). l ++ flat_map f ns) (e n) ∙ ap (λ (l : List Item). g n ++ l) (flat_same f g e ns)
 
@@ -179,7 +179,7 @@ flag_same kind size source unit u ls ctu =
     ∙ ctu_same kind size source unit u (coded_first (map (map still) ls) ctu) (joined (take ctu ls)) (get_or ls ctu []) ctu
     (ap (λ (us : List MoveLeaf). leaves (coded_after [] us)) (first_same ctu ls) ∙ coded_same [] (joined (take ctu ls))))
 
-ctus_same : (kind : SliceKind) (size : Size) (source : Source) (unit : UnitItems) → WritesLeaves kind source unit
+pub ctus_same : (kind : SliceKind) (size : Size) (source : Source) (unit : UnitItems) → WritesLeaves kind source unit
     → (ls : List (List Leaf)) (row n : ℕ) → ctus_items_of unit size (is_last size) (map (map still) ls) row n ≡ ctus_items kind size source ls row n
 ctus_same kind size source unit u ls row n = flat_same _ _ (λ i. flag_same kind size source unit u ls (row * ctus size.w + i)) (below n)
 
@@ -189,7 +189,7 @@ unfolding row_items_of items_of_row
 row_same kind size source unit u ls row =
     ap (λ (l : List Item). l ++ cond (row + 1 == ctus size.h) [] (terminate_bin true ∷ [])) (ctus_same kind size source unit u ls row (ctus size.w))
 
-contexts_same : (kind : SliceKind) (size : Size) (source : Source) (unit : UnitItems) → WritesLeaves kind source unit
+pub contexts_same : (kind : SliceKind) (size : Size) (source : Source) (unit : UnitItems) → WritesLeaves kind source unit
     → (ls : List (List Leaf)) (row : ℕ) → contexts_of kind unit size (map (map still) ls) row ≡ contexts_at kind size source ls row
 unfolding contexts_of contexts_at
 contexts_same kind size source unit u ls zero = refl

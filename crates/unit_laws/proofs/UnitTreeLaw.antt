@@ -27,23 +27,23 @@ use Rattle.unit_laws.proofs.UnitLaw.{units_are_read, merge_short}
 
 -- ---- units one after another
 
-coded-append : (before : List Moving) (a b : List MoveLeaf) → coded_after before (a ++ b) ≡ coded_after (coded_after before a) b
+pub coded-append : (before : List Moving) (a b : List MoveLeaf) → coded_after before (a ++ b) ≡ coded_after (coded_after before a) b
 coded-append before [] b = refl
 coded-append before (u ∷ a) b = coded-append (before ++ as_coded before u ∷ []) a b
 
-reads-append : (source : Source) (before : List Moving) (a b : List MoveLeaf) → reads_after source before (a ++ b) ≡ reads_after source before a ++ reads_after source (coded_after before a) b
+pub reads-append : (source : Source) (before : List Moving) (a b : List MoveLeaf) → reads_after source before (a ++ b) ≡ reads_after source before a ++ reads_after source (coded_after before a) b
 reads-append source before [] b = refl
 reads-append source before (u ∷ a) b =
     ap (λ (l : List ReadUnit). record { x = u.x; y = u.y; log2 = u.log2; content = unit_content source before u u.kind } ∷ l) (reads-append source (before ++ as_coded before u ∷ []) a b)
 
-moving_back : (source : Source) (before : List Moving) (u : MoveLeaf) (k : MoveKind)
+pub moving_back : (source : Source) (before : List Moving) (u : MoveLeaf) (k : MoveKind)
     → moving_of (record { x = u.x; y = u.y; log2 = u.log2; content = unit_content source before u k }) ≡ as_coded before (record { x = u.x; y = u.y; log2 = u.log2; kind = k })
 moving_back source before u moves.Skip = refl
 moving_back source before u (moves.Move v) = refl
 moving_back source before u moves.Pcm = refl
 moving_back source before u (moves.Intra mode) = refl
 
-after_reads : (source : Source) (before : List Moving) (us : List MoveLeaf) → units_after before (reads_after source before us) ≡ coded_after before us
+pub after_reads : (source : Source) (before : List Moving) (us : List MoveLeaf) → units_after before (reads_after source before us) ≡ coded_after before us
 after_reads source before [] = append-nil before
 after_reads source before (u ∷ us) =
     let rest : List Moving = map moving_of (reads_after source (before ++ as_coded before u ∷ []) us) in
@@ -55,11 +55,11 @@ pub record AreFit (units : List Moving) : Type 0 where
   pub modes : AreModes (leaves units)
   pub short : AreShort units
 
-leaves-append : (a b : List Moving) → leaves (a ++ b) ≡ leaves a ++ leaves b
+pub leaves-append : (a b : List Moving) → leaves (a ++ b) ≡ leaves a ++ leaves b
 leaves-append [] b = refl
 leaves-append (u ∷ a) b = ap (λ (l : List Leaf). u.leaf ∷ l) (leaves-append a b)
 
-fit_one : (kind : SliceKind) (size : Size) (before : List Moving) (u : MoveLeaf) → IsShort (merge before u.x u.y u.log2) → CanStand kind size before u.x u.y u.log2 u.kind → AreFit before → AreFit (before ++ as_coded before u ∷ [])
+pub fit_one : (kind : SliceKind) (size : Size) (before : List Moving) (u : MoveLeaf) → IsShort (merge before u.x u.y u.log2) → CanStand kind size before u.x u.y u.log2 u.kind → AreFit before → AreFit (before ++ as_coded before u ∷ [])
 fit_one kind size before u hm c f = record {
   modes = subst AreModes (sym (leaves-append before (as_coded before u ∷ []))) (all_append (λ leaf. IsMode leaf.kind) (leaves before) (leaf_as_coded u ∷ []) f.modes (mode kind u.kind c, tt));
   short = all_append (λ unit. IfSome unit.vector IsShort) before (as_coded before u ∷ []) f.short (vector kind u.kind c, tt);
@@ -80,16 +80,16 @@ fit_one kind size before u hm c f = record {
     vector s moves.Pcm h = tt
     vector s (moves.Intra m) h = tt
 
-fit_all : (kind : SliceKind) (size : Size) (before : List Moving) (us : List MoveLeaf) → CanStandAll kind size before us → AreFit before → AreFit (coded_after before us)
+pub fit_all : (kind : SliceKind) (size : Size) (before : List Moving) (us : List MoveLeaf) → CanStandAll kind size before us → AreFit before → AreFit (coded_after before us)
 fit_all kind size before [] c f = f
 fit_all kind size before (u ∷ us) c f =
     fit_all kind size (before ++ as_coded before u ∷ []) us c.1 (fit_one kind size before u (merge_short before u.x u.y u.log2 f.short) c.0 f)
 
-stand-front : (kind : SliceKind) (size : Size) (before : List Moving) (a b : List MoveLeaf) → CanStandAll kind size before (a ++ b) → CanStandAll kind size before a
+pub stand-front : (kind : SliceKind) (size : Size) (before : List Moving) (a b : List MoveLeaf) → CanStandAll kind size before (a ++ b) → CanStandAll kind size before a
 stand-front kind size before [] b c = tt
 stand-front kind size before (u ∷ a) b c = (c.0, stand-front kind size (before ++ as_coded before u ∷ []) a b c.1)
 
-stand-back : (kind : SliceKind) (size : Size) (before : List Moving) (a b : List MoveLeaf) → CanStandAll kind size before (a ++ b) → CanStandAll kind size (coded_after before a) b
+pub stand-back : (kind : SliceKind) (size : Size) (before : List Moving) (a b : List MoveLeaf) → CanStandAll kind size before (a ++ b) → CanStandAll kind size (coded_after before a) b
 stand-back kind size before [] b c = c
 stand-back kind size before (u ∷ a) b c = stand-back kind size (before ++ as_coded before u ∷ []) a b c.1
 

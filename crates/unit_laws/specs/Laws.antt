@@ -1,14 +1,14 @@
 -- Laws over the definitions of coding units where blocks may move: what is written is read back.
-use Rattle.std.specs.Prelude.{◌≡◌, true, false, nat_abs, ◌≤◌, ◌<◌, ℕ, zero, suc, ◌+◌, ◌*◌, ◌^◌, ◌⊎◌, MatchBool, List, [], ◌∷◌, ◌++◌, map, IfSome}
+use Rattle.std.specs.Prelude.{◌≡◌, true, false, nat_abs, ◌≤◌, ◌<◌, ℕ, zero, suc, ◌+◌, ◌*◌, ◌^◌, ◌⊎◌, MatchBool, List, [], ◌∷◌, ◌++◌, map, IfSome, get_or}
 use Rattle.std.specs.List.{AllByRecursion}
 use Rattle.h265_model.specs.declared.Place.TheVariants.{Context}
 use Rattle.h265_model.specs.declared.moves.Vector.{Vector}
-use Rattle.h265_model.specs.Plain.{Size, ctu_x, ctu_y}
-use Rattle.h265_model.specs.Engine.{Reads, ◌>>=◌, give}
+use Rattle.h265_model.specs.Plain.{Size, ctus, ctu_x, ctu_y}
+use Rattle.h265_model.specs.Engine.{Reads, ReadsWith, ◌>>=◌, give}
 use Rattle.h265_model.specs.Tree.{expect, Source, IsSource, AreModes, is_whole}
 use Rattle.h265_model.specs.Predict.{is_inside}
 use Rattle.h265_model.specs.Residual.{IsSide}
-use Rattle.h265_model.specs.MotionTree.{Content, Copied, Moved, Samples, Levels, ReadUnit, coding_unit_read, ctu_read}
+use Rattle.h265_model.specs.MotionTree.{Content, Copied, Moved, Samples, Levels, ReadUnit, ReadCtu, coding_unit_read, ctu_read}
 use Rattle.h265_model.specs.Motion.{Moving, leaves, leaf_as_coded, as_coded, merge, has_source, move_items, vector_read, still}
 use Rattle.h265_model.specs.declared.moves.MoveLeaf.{MoveLeaf}
 use Rattle.h265_model.specs.declared.moves.MoveKind.{MoveKind}
@@ -17,7 +17,9 @@ use Rattle.h265_model.specs.declared.leaf.SliceKind.TheVariants.{I, P}
 use Rattle.h265_model.specs.declared.leaf.SliceKind.{SliceKind}
 use Rattle.h265_model.specs.declared.leaf.Leaf.{Leaf}
 use Rattle.h265_model.specs.Slice.{row_code}
-use Rattle.h265_model.specs.Walks.{UnitItems, ctu_items_of, still_unit, move_unit, code_of}
+use Rattle.h265_model.specs.Code.{contexts_after}
+use Rattle.h265_model.specs.MotionSlice.{slice_row_read, segment_row_read}
+use Rattle.h265_model.specs.Walks.{UnitItems, ctu_items_of, coded_first, row_items_of, segment_items_of, still_unit, move_unit, code_of}
 
 -- ---- vectors
 
@@ -124,3 +126,25 @@ AreStill unit =
 -- in streams without moves, and in streams with moves (7.3.8.1 to 7.3.8.5)
 abbrev pub EachRowIsStill : Type 0
 EachRowIsStill = AreStill still_unit × AreStill move_unit
+
+-- what the units of a picture have to be: the trees of its coding tree units, each unit of which can stand after those before it
+pub record AreLawfulUnits (kind : SliceKind) (size : Size) (units : List (List MoveLeaf)) (total : ℕ) : Type 0 where
+  pub tree : (ctu : ℕ) → ctu < total → IsUnitTree size 2 (ctu_x size ctu) (ctu_y size ctu) (get_or units ctu [])
+  pub stand : (ctu : ℕ) → ctu < total → CanStandAll kind size (coded_first units ctu) (get_or units ctu [])
+
+-- what is read of n coding tree units from this one on, after these contexts
+abbrev pub units_from : SliceKind → Size → Source → List (List MoveLeaf) → ℕ → ℕ → List ℕ → List ReadCtu
+units_from kind size source units ctu zero c = []
+units_from kind size source units ctu (suc n) c =
+    let before : List Moving = coded_first units ctu in
+    let here : List MoveLeaf = get_or units ctu [] in
+    let after_ctu : List ℕ = contexts_after (ctu_items_of (move_unit kind source) size before here ctu) c in
+    record { units = reads_after source before here; contexts = after_ctu } ∷ units_from kind size source units (suc ctu) n after_ctu
+
+-- a row of coding tree units where blocks may move, in a slice and as a segment of its own, with the contexts after each of them (7.3.8.1)
+abbrev pub EachUnitRowIsRead : Type 0
+EachUnitRowIsRead =
+    (kind : SliceKind) (size : Size) (source : Source) (units : List (List MoveLeaf)) (row total : ℕ) → row * ctus size.w + ctus size.w ≤ total →
+    AreLawfulUnits kind size units total → IsSource source →
+    ReadsWith (slice_row_read kind size row (coded_first units (row * ctus size.w))) (row_items_of (move_unit kind source) size units row) (units_from kind size source units (row * ctus size.w) (ctus size.w))
+    × ReadsWith (segment_row_read kind size row (coded_first units (row * ctus size.w))) (segment_items_of (move_unit kind source) size units row) (units_from kind size source units (row * ctus size.w) (ctus size.w))

@@ -1,7 +1,7 @@
 //! Laws over coding units, coding tree units and rows where blocks may move. Each function does nothing: its clause is the law.
 #![tactic(auto)]
 
-ghost use Rattle.unit_laws.specs.Laws.{EachVectorIsRead, EachUnitIsRead, EachUnitTreeIsRead, EachRowIsStill};
+ghost use Rattle.unit_laws.specs.Laws.{EachVectorIsRead, EachUnitIsRead, EachUnitTreeIsRead, EachRowIsStill, EachUnitRowIsRead};
 
 /// Each vector that is written as a difference is read back.
 pub fn each_vector_is_read()
@@ -21,4 +21,9 @@ pub fn each_unit_tree_is_read()
 /// Rows without moved units are those of streams in which nothing moves.
 pub fn each_row_is_still()
     ensures { EachRowIsStill }
+{}
+
+/// Each row of coding tree units is read back where blocks may move, in a slice and as a segment.
+pub fn each_unit_row_is_read()
+    ensures { EachUnitRowIsRead }
 {}
