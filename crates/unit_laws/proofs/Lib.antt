@@ -3,3 +3,4 @@ pub mod StillLaw
 pub mod UnitLaw
 pub mod UnitTreeLaw
 pub mod UnitRows
+pub mod UnitForm

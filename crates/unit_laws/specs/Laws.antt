@@ -1,5 +1,5 @@
 -- Laws over the definitions of coding units where blocks may move: what is written is read back.
-use Rattle.std.specs.Prelude.{◌≡◌, true, false, nat_abs, ◌≤◌, ◌<◌, ℕ, zero, suc, ◌+◌, ◌*◌, ◌^◌, ◌⊎◌, MatchBool, List, [], ◌∷◌, ◌++◌, map, IfSome, get_or}
+use Rattle.std.specs.Prelude.{◌≡◌, true, false, nat_abs, ◌≤◌, ◌<◌, ℕ, zero, suc, ◌+◌, ◌*◌, ◌^◌, ◌⊎◌, MatchBool, List, [], ◌∷◌, ◌++◌, map, IfSome, get_or, length}
 use Rattle.std.specs.List.{AllByRecursion}
 use Rattle.h265_model.specs.declared.Place.TheVariants.{Context}
 use Rattle.h265_model.specs.declared.moves.Vector.{Vector}
@@ -17,7 +17,7 @@ use Rattle.h265_model.specs.declared.leaf.SliceKind.TheVariants.{I, P}
 use Rattle.h265_model.specs.declared.leaf.SliceKind.{SliceKind}
 use Rattle.h265_model.specs.declared.leaf.Leaf.{Leaf}
 use Rattle.h265_model.specs.Slice.{row_code}
-use Rattle.h265_model.specs.Code.{contexts_after}
+use Rattle.h265_model.specs.Code.{contexts_after, IsWellFormed}
 use Rattle.h265_model.specs.MotionSlice.{slice_row_read, segment_row_read}
 use Rattle.h265_model.specs.Walks.{UnitItems, ctu_items_of, coded_first, row_items_of, segment_items_of, still_unit, move_unit, code_of}
 
@@ -148,3 +148,10 @@ EachUnitRowIsRead =
     AreLawfulUnits kind size units total → IsSource source →
     ReadsWith (slice_row_read kind size row (coded_first units (row * ctus size.w))) (row_items_of (move_unit kind source) size units row) (units_from kind size source units (row * ctus size.w) (ctus size.w))
     × ReadsWith (segment_row_read kind size row (coded_first units (row * ctus size.w))) (segment_items_of (move_unit kind source) size units row) (units_from kind size source units (row * ctus size.w) (ctus size.w))
+
+-- the items of a row end in a terminating bin 1, and each other one has samples after it, in a slice and as a segment (7.3.8.1, 7.3.8.7)
+abbrev pub EachUnitRowIsWellFormed : Type 0
+EachUnitRowIsWellFormed =
+    (kind : SliceKind) (size : Size) (source : Source) (units : List (List MoveLeaf)) (row : ℕ) → IsSource source → length units ≡ ctus size.w * ctus size.h →
+    AreLawfulUnits kind size units (ctus size.w * ctus size.h) → 0 < ctus size.w → row < ctus size.h →
+    IsWellFormed (row_items_of (move_unit kind source) size units row) × IsWellFormed (segment_items_of (move_unit kind source) size units row)

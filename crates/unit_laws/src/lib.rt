@@ -1,7 +1,7 @@
 //! Laws over coding units, coding tree units and rows where blocks may move. Each function does nothing: its clause is the law.
 #![tactic(auto)]
 
-ghost use Rattle.unit_laws.specs.Laws.{EachVectorIsRead, EachUnitIsRead, EachUnitTreeIsRead, EachRowIsStill, EachUnitRowIsRead};
+ghost use Rattle.unit_laws.specs.Laws.{EachVectorIsRead, EachUnitIsRead, EachUnitTreeIsRead, EachRowIsStill, EachUnitRowIsRead, EachUnitRowIsWellFormed};
 
 /// Each vector that is written as a difference is read back.
 pub fn each_vector_is_read()
@@ -26,4 +26,9 @@ pub fn each_row_is_still()
 /// Each row of coding tree units is read back where blocks may move, in a slice and as a segment.
 pub fn each_unit_row_is_read()
     ensures { EachUnitRowIsRead }
+{}
+
+/// The items of each row are well formed where blocks may move, in a slice and as a segment.
+pub fn each_unit_row_is_well_formed()
+    ensures { EachUnitRowIsWellFormed }
 {}
