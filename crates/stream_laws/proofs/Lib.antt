@@ -6,3 +6,4 @@ pub mod OldStreams
 pub mod SetsLaw
 pub mod SetsSpelling
 pub mod StreamForm
+pub mod Behind

@@ -4,3 +4,4 @@ pub mod UnitLaw
 pub mod UnitTreeLaw
 pub mod UnitRows
 pub mod UnitForm
+pub mod StillUnits
