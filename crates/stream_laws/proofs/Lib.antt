@@ -7,3 +7,4 @@ pub mod SetsLaw
 pub mod SetsSpelling
 pub mod StreamForm
 pub mod Behind
+pub mod Prefixes

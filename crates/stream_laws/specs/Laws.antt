@@ -1,14 +1,15 @@
 -- Laws over the definitions of streams that tie those with moves, segments and hashes to plain ones, and of their parameter sets.
-use Rattle.std.specs.Prelude.{◌≡◌, true, false, ◌<◌, ℕ, List, Ok, Bool, IsTrue}
+use Rattle.std.specs.Prelude.{◌≡◌, true, false, ◌<◌, ℕ, List, ◌++◌, Ok, Bool, IsTrue}
 use Rattle.std.specs.List.{AllByRecursion}
 use Rattle.h265_model.specs.Plain.{Size, AreBytes, coded}
 use Rattle.h265_model.specs.NalUnits.{NalUnit}
 use Rattle.h265_model.specs.ParamSets.{param_units, set_units, read_sets}
 use Rattle.h265_model.specs.Raster.{Raster}
+use Rattle.h265_model.specs.declared.extra.Extra.{Extra}
 use Rattle.h265_model.specs.declared.extra.Extra.TheVariants.{Plain}
 use Rattle.h265_model.specs.Words.{Settings, is_size}
 use Rattle.h265_model.specs.Stream.{stream_of}
-use Rattle.h265_model.specs.ExtraStream.{extra_stream}
+use Rattle.h265_model.specs.ExtraStream.{extra_pieces, extra_stream}
 use Rattle.h265_model.specs.Decode.{decode}
 use Rattle.h265_model.specs.DecodeAll.{decode_all}
 
@@ -36,3 +37,8 @@ EachPlainStreamIsThat = (settings : Settings) (pictures : List Raster) → extra
 -- a stream that was decoded without regard to moves, segments and hashes is decoded to the same
 abbrev pub EachOldStreamIsDecoded : Type 0
 EachOldStreamIsDecoded = (stream : List ℕ) (size : Size) (pictures : List Raster) → decode stream ≡ Ok (size, pictures) → decode_all stream ≡ Ok (size, pictures)
+
+-- the pieces of a list of pictures, of any kind, begin those of a longer one
+abbrev pub EachPieceIsKept : Type 0
+EachPieceIsKept =
+    (settings : Settings) (extra : Extra) (ps qs : List Raster) → (rest : List (List ℕ)) × (extra_pieces settings extra (ps ++ qs) ≡ extra_pieces settings extra ps ++ rest)
