@@ -99,7 +99,7 @@ length_contexts : (number : ℕ → ℕ) (i : ℕ) (bits : List Bool) → length
 length_contexts number i [] = refl
 length_contexts number i (b ∷ bits) = ap suc (length_contexts number (suc i) bits)
 
-length_eg : (ones k v : ℕ) → length (eg_within ones k v) ≤ 2 * ones + k + 1
+pub length_eg : (ones k v : ℕ) → length (eg_within ones k v) ≤ 2 * ones + k + 1
 length_eg zero k v = omega (arith, length-u k v)
 length_eg (suc ones) k v = go (nat_le (2 ^ k) v) (length_eg ones (suc k) (v - 2 ^ k))
   where

@@ -5,3 +5,5 @@ pub mod UnitTreeLaw
 pub mod UnitRows
 pub mod UnitForm
 pub mod StillUnits
+pub mod UnitCover
+pub mod UnitRebuild

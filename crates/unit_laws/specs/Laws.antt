@@ -3,9 +3,9 @@ use Rattle.std.specs.Prelude.{◌≡◌, true, false, nat_abs, ◌≤◌, ◌<�
 use Rattle.std.specs.List.{AllByRecursion}
 use Rattle.h265_model.specs.declared.Place.TheVariants.{Context}
 use Rattle.h265_model.specs.declared.moves.Vector.{Vector}
-use Rattle.h265_model.specs.Plain.{Size, ctus, ctu_x, ctu_y}
+use Rattle.h265_model.specs.Plain.{Size, Picture, IsPicture, ctus, joined, ctu_x, ctu_y}
 use Rattle.h265_model.specs.Engine.{Reads, ReadsWith, ◌>>=◌, give}
-use Rattle.h265_model.specs.Tree.{expect, Source, IsSource, AreModes, is_whole}
+use Rattle.h265_model.specs.Tree.{expect, Source, IsSource, source_of, samples_in, AreModes, is_whole}
 use Rattle.h265_model.specs.Predict.{is_inside}
 use Rattle.h265_model.specs.Residual.{IsSide}
 use Rattle.h265_model.specs.MotionTree.{Content, Copied, Moved, Samples, Levels, ReadUnit, ReadCtu, coding_unit_read, ctu_read}
@@ -18,6 +18,8 @@ use Rattle.h265_model.specs.declared.leaf.SliceKind.{SliceKind}
 use Rattle.h265_model.specs.declared.leaf.Leaf.{Leaf}
 use Rattle.h265_model.specs.Slice.{row_code}
 use Rattle.h265_model.specs.Code.{contexts_after, IsWellFormed}
+use Rattle.h265_model.specs.Raster.{planes}
+use Rattle.h265_model.specs.MotionRebuild.{moved_samples, rebuild}
 use Rattle.h265_model.specs.MotionSlice.{slice_row_read, segment_row_read}
 use Rattle.h265_model.specs.Walks.{UnitItems, ctu_items_of, coded_first, row_items_of, segment_items_of, still_unit, move_unit, code_of}
 
@@ -155,3 +157,27 @@ EachUnitRowIsWellFormed =
     (kind : SliceKind) (size : Size) (source : Source) (units : List (List MoveLeaf)) (row : ℕ) → IsSource source → length units ≡ ctus size.w * ctus size.h →
     AreLawfulUnits kind size units (ctus size.w * ctus size.h) → 0 < ctus size.w → row < ctus size.h →
     IsWellFormed (row_items_of (move_unit kind source) size units row) × IsWellFormed (segment_items_of (move_unit kind source) size units row)
+
+-- ---- pictures
+
+-- the block that a vector names in one picture is the leaf's block of the other
+abbrev pub IsSameBlock : Picture → Picture → Leaf → Vector → Type 0
+IsSameBlock prev now leaf v = (component : ℕ) → component < 3 → moved_samples prev leaf v component ≡ samples_in now leaf component
+
+-- a unit of this kind that is copied is so of a block that is the same
+abbrev pub IsCopied : Picture → Picture → List Moving → MoveLeaf → MoveKind → Type 0
+IsCopied prev now before unit moves.Skip = IsSameBlock prev now (leaf_as_coded unit) (merge before unit.x unit.y unit.log2)
+IsCopied prev now before unit (moves.Move v) = IsSameBlock prev now (leaf_as_coded unit) v
+IsCopied prev now before unit moves.Pcm = Unit {0}
+IsCopied prev now before unit (moves.Intra mode) = Unit {0}
+
+abbrev pub AreCopied : Picture → Picture → List Moving → List MoveLeaf → Type 0
+AreCopied prev now before [] = Unit {0}
+AreCopied prev now before (unit ∷ units) = IsCopied prev now before unit unit.kind × AreCopied prev now (before ++ as_coded before unit ∷ []) units
+
+-- what is read of a picture's units rebuilds the picture over any previous one that has the copied blocks (8.4.4.1, 8.5.3.3, 8.6.2, 8.6.7)
+abbrev pub EachUnitPictureIsRebuilt : Type 0
+EachUnitPictureIsRebuilt =
+    (kind : SliceKind) (size : Size) (prev now : Picture) (units : List (List MoveLeaf)) → 0 < ctus size.w → length units ≡ ctus size.w * ctus size.h →
+    AreLawfulUnits kind size units (ctus size.w * ctus size.h) → IsPicture now → AreCopied prev now [] (joined units) →
+    rebuild size prev (reads_after (source_of size now) [] (joined units)) ≡ planes size now

@@ -1,7 +1,7 @@
 //! Laws over coding units, coding tree units and rows where blocks may move. Each function does nothing: its clause is the law.
 #![tactic(auto)]
 
-ghost use Rattle.unit_laws.specs.Laws.{EachVectorIsRead, EachUnitIsRead, EachUnitTreeIsRead, EachRowIsStill, EachUnitRowIsRead, EachUnitRowIsWellFormed};
+ghost use Rattle.unit_laws.specs.Laws.{EachVectorIsRead, EachUnitIsRead, EachUnitTreeIsRead, EachRowIsStill, EachUnitRowIsRead, EachUnitRowIsWellFormed, EachUnitPictureIsRebuilt};
 
 /// Each vector that is written as a difference is read back.
 pub fn each_vector_is_read()
@@ -31,4 +31,9 @@ pub fn each_unit_row_is_read()
 /// The items of each row are well formed where blocks may move, in a slice and as a segment.
 pub fn each_unit_row_is_well_formed()
     ensures { EachUnitRowIsWellFormed }
+{}
+
+/// Each picture is rebuilt from what is read of its units, where blocks may move.
+pub fn each_unit_picture_is_rebuilt()
+    ensures { EachUnitPictureIsRebuilt }
 {}
