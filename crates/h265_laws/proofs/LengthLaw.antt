@@ -428,7 +428,7 @@ length_unit kind source before leaf is side = go kind (is_skipped leaf.kind) (le
 -- ---- trees and rows
 
 -- how many items a block has at most
-pub most_items : ℕ → ℕ
+most_items : ℕ → ℕ
 most_items zero = 136000
 most_items (suc depth) = 4 * most_items depth + 136001
 

@@ -30,6 +30,7 @@ use Rattle.stream_laws.proofs.OldStreams.{now_whole}
 use Rattle.stream_laws.proofs.StreamForm.{one_step}
 use Rattle.unit_laws.specs.Laws.{AreLawfulUnits}
 use Rattle.unit_laws.proofs.UnitRows.{row_values, read_first, coded_is, row_read_on, row_is_read, contexts_are, next_start, segment_row}
+use Rattle.unit_laws.proofs.Coded.{IsCoded}
 use Rattle.unit_laws.proofs.UnitForm.{lawful_sides, segment_form}
 use Rattle.segment_laws.specs.Laws.{order_told}
 use Rattle.segment_laws.proofs.SegmentLaw.{segment_heads_are_read}
@@ -46,20 +47,7 @@ same_bit : (b : Bool) → beq b b ≡ true
 same_bit true = refl
 same_bit false = refl
 
--- ---- what is known of a picture
-
--- the units of a picture that is coded after this one, and that they rebuild it
-pub record IsCoded (size : Size) (idr : Bool) (poc : ℕ) (source : Source) (units : List (List MoveLeaf)) (last : Option Decoded) (now : Picture) : Type 0 where
-  pub fit : IsFit size
-  pub small : poc < 256
-  pub zero_at : IsTrue idr → poc ≡ 0
-  pub source_is : IsSource source
-  pub many : length units ≡ ctus size.w * ctus size.h
-  pub lawful : AreLawfulUnits (slice_kind idr) size units (ctus size.w * ctus size.h)
-  pub prev : Picture
-  pub is_referred : referred idr last size ≡ Some prev
-  pub comes_next : is_next idr last poc ≡ true
-  pub rebuilt : rebuild size prev (read_first source units (ctus size.w * ctus size.h)) ≡ planes size now
+-- ---- a picture
 
 module _ (size : Size) (idr : Bool) (poc : ℕ) (source : Source) (units : List (List MoveLeaf)) (last : Option Decoded) (now : Picture) (is : IsCoded size idr poc source units last now) where
   abbrev pub codes : ℕ → List ℕ

@@ -39,7 +39,8 @@ use Rattle.unit_laws.proofs.StillUnits.{lawful_still, first_reads, segment_code_
 use Rattle.unit_laws.proofs.UnitForm.{lawful_sides, segment_form}
 use Rattle.unit_laws.proofs.UnitRows.{read_first}
 use Rattle.segment_laws.specs.Laws.{EachSegmentedStreamIsDecoded}
-use Rattle.segment_laws.proofs.SegmentRows.{row_unit, IsCoded, decoded, picture_is_read}
+use Rattle.unit_laws.proofs.Coded.{IsCoded}
+use Rattle.segment_laws.proofs.SegmentRows.{row_unit, decoded, picture_is_read}
 
 -- ---- a picture's parts
 

@@ -7,3 +7,4 @@ pub mod UnitForm
 pub mod StillUnits
 pub mod UnitCover
 pub mod UnitRebuild
+pub mod Coded
