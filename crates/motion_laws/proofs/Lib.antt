@@ -1,3 +1,4 @@
 pub mod MovedChoice
 pub mod UnitLength
 pub mod MovedSlices
+pub mod MovedStreams

@@ -267,7 +267,7 @@ module _ (prev now : Picture) (size : Size) (effort : ℕ) where
 
   -- ---- all coding tree units
 
-  chosen_length : (n : ℕ) (before : List Moving) (ctu : ℕ) → length (moved_choices prev now size effort n before ctu) ≡ n
+  pub chosen_length : (n : ℕ) (before : List Moving) (ctu : ℕ) → length (moved_choices prev now size effort n before ctu) ≡ n
   unfolding moved_choices
   chosen_length zero before ctu = refl
   chosen_length (suc n) before ctu = ap suc (chosen_length n (coded_after before (moved_choice prev now size effort before ctu)) (suc ctu))
@@ -285,18 +285,25 @@ module _ (prev now : Picture) (size : Size) (effort : ℕ) where
       ∙ (ap (λ (b : List Moving). moved_choice prev now size effort b (suc ctu + i)) (sym (coded-append before first (joined (take i others))))
       ∙ ap (moved_choice prev now size effort (coded_after before (first ++ joined (take i others)))) e)
 
-  chosen_copied : (n : ℕ) (before : List Moving) (ctu : ℕ) → AreCopied prev now before (joined (moved_choices prev now size effort n before ctu))
+  pub chosen_copied : (n : ℕ) (before : List Moving) (ctu : ℕ) → AreCopied prev now before (joined (moved_choices prev now size effort n before ctu))
   unfolding moved_choices
   chosen_copied zero before ctu = tt
   chosen_copied (suc n) before ctu =
       let first : List MoveLeaf = moved_choice prev now size effort before ctu in
       copied-append prev now before first (joined (moved_choices prev now size effort n (coded_after before first) (suc ctu))) (choice_fair before ctu).copied (chosen_copied n (coded_after before first) (suc ctu))
 
+  pub chosen_stand : (n : ℕ) (before : List Moving) (ctu : ℕ) → CanStandAll P size before (joined (moved_choices prev now size effort n before ctu))
+  unfolding moved_choices
+  chosen_stand zero before ctu = tt
+  chosen_stand (suc n) before ctu =
+      let first : List MoveLeaf = moved_choice prev now size effort before ctu in
+      stand-append size before first (joined (moved_choices prev now size effort n (coded_after before first) (suc ctu))) (choice_fair before ctu).stand (chosen_stand n (coded_after before first) (suc ctu))
+
   chosen_here : (total ctu : ℕ) → ctu < total
       → get_or (moved_choices prev now size effort total [] 0) ctu [] ≡ moved_choice prev now size effort (coded_first (moved_choices prev now size effort total [] 0) ctu) ctu
   chosen_here total ctu h = let e : 0 + ctu ≡ ctu = omega arith in chosen_at total [] 0 ctu h ∙ ap (moved_choice prev now size effort (coded_first (moved_choices prev now size effort total [] 0) ctu)) e
 
-  chosen_lawful : (total : ℕ) → AreLawfulUnits P size (moved_choices prev now size effort total [] 0) total
+  pub chosen_lawful : (total : ℕ) → AreLawfulUnits P size (moved_choices prev now size effort total [] 0) total
   chosen_lawful total =
       let units : List (List MoveLeaf) = moved_choices prev now size effort total [] 0 in
       record {

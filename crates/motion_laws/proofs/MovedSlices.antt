@@ -26,6 +26,7 @@ use Rattle.h265_model.specs.Walks.{move_unit, coded_first, contexts_of, code_of}
 use Rattle.h265_model.specs.DecodeAll.{Stand, referred, is_next, whole, slice_step, step}
 use Rattle.h265_model.proofs.ListParts.{drop_front}
 use Rattle.h265_laws.proofs.EndsLaw.{Ends, code_ends, ends_some, ends_append, ends_well, escape_append, escape_rows, rows_end}
+use Rattle.h265_laws.proofs.PictureLaw.{IsFit}
 use Rattle.h265_laws.proofs.HeadLaws.{read_head-head_bits}
 use Rattle.h265_laws.proofs.SliceLaw.{rows_fit, substreams_cut}
 use Rattle.h265_laws.proofs.StreamLaw.{some_escaped, length_but_last, map_map, head_ends}
@@ -66,12 +67,39 @@ unit_is idr poc row rows each =
 
 -- ---- a picture
 
-module _ (size : Size) (idr : Bool) (poc : ℕ) (source : Source) (units : List (List MoveLeaf)) (last : Option Decoded) (now : Picture) (is : IsCoded size idr poc source units last now) where
-  abbrev pub codes : ℕ → List ℕ
-  codes row = code_of (slice_kind idr) (move_unit (slice_kind idr) source) size units row
+abbrev pub codes_of : Size → Bool → Source → List (List MoveLeaf) → ℕ → List ℕ
+codes_of size idr source units row = code_of (slice_kind idr) (move_unit (slice_kind idr) source) size units row
 
-  abbrev pub rows : List (List ℕ)
-  rows = map codes (below (ctus size.h))
+abbrev pub rows_of : Size → Bool → Source → List (List MoveLeaf) → List (List ℕ)
+rows_of size idr source units = map (codes_of size idr source units) (below (ctus size.h))
+
+-- each row ends in a byte other than 0
+module _ (size : Size) (idr : Bool) (source : Source) (units : List (List MoveLeaf)) (fit : IsFit size) (source_is : IsSource source) (many : length units ≡ ctus size.w * ctus size.h)
+    (lawful : AreLawfulUnits (slice_kind idr) size units (ctus size.w * ctus size.h)) where
+  each_row_ends : (row : ℕ) → row < ctus size.h → Ends (codes_of size idr source units row)
+  each_row_ends row less = code_ends _ _ (slice_form (slice_kind idr) size source source_is units row (lawful_sides (slice_kind idr) size units (ctus size.w * ctus size.h) many lawful) fit.wide less)
+
+  ends_from : (a n : ℕ) → a + n ≤ ctus size.h → AllByRecursion Ends (map (codes_of size idr source units) (range_with_len a n))
+  ends_from a zero h = tt
+  ends_from a (suc n) h = (each_row_ends a (omega arith), ends_from (a + 1) n (omega arith))
+
+  pub rows_end_well : AllByRecursion Ends (rows_of size idr source units)
+  rows_end_well = ends_from 0 (ctus size.h) (omega arith)
+
+  pub slice_is_unit : (poc : ℕ) → IsNalUnit (slice_unit idr poc (rows_of size idr source units))
+  slice_is_unit poc = go (ctus size.h) fit.high rows_end_well
+    where
+      go : (h : ℕ) → 0 < h → AllByRecursion Ends (map (codes_of size idr source units) (below h)) → IsNalUnit (slice_unit idr poc (map (codes_of size idr source units) (below h)))
+      go zero some each = absurd (omega arith)
+      go (suc h) some each = unit_is idr poc (codes_of size idr source units 0) (map (codes_of size idr source units) (range_with_len (0 + 1) h)) each
+
+-- its slice is read
+module _ (size : Size) (idr : Bool) (poc : ℕ) (source : Source) (units : List (List MoveLeaf)) (last : Option Decoded) (now : Picture) (is : IsCoded size idr poc source units last now) where
+  abbrev codes : ℕ → List ℕ
+  codes row = codes_of size idr source units row
+
+  abbrev rows : List (List ℕ)
+  rows = rows_of size idr source units
 
   values : ℕ → List ReadCtu
   values row = row_values (slice_kind idr) size source units row
@@ -80,21 +108,7 @@ module _ (size : Size) (idr : Bool) (poc : ℕ) (source : Source) (units : List 
   sides = lawful_sides (slice_kind idr) size units (ctus size.w * ctus size.h) is.many is.lawful
 
   row_ends : (row : ℕ) → row < ctus size.h → Ends (codes row)
-  row_ends row less = code_ends _ _ (slice_form (slice_kind idr) size source is.source_is units row sides is.fit.wide less)
-
-  ends_from : (a n : ℕ) → a + n ≤ ctus size.h → AllByRecursion Ends (map codes (range_with_len a n))
-  ends_from a zero h = tt
-  ends_from a (suc n) h = (row_ends a (omega arith), ends_from (a + 1) n (omega arith))
-
-  pub rows_end_well : AllByRecursion Ends rows
-  rows_end_well = ends_from 0 (ctus size.h) (omega arith)
-
-  pub slice_is_unit : IsNalUnit (slice_unit idr poc rows)
-  slice_is_unit = go (ctus size.h) is.fit.high rows_end_well
-    where
-      go : (h : ℕ) → 0 < h → AllByRecursion Ends (map codes (below h)) → IsNalUnit (slice_unit idr poc (map codes (below h)))
-      go zero some each = absurd (omega arith)
-      go (suc h) some each = unit_is idr poc (codes 0) (map codes (range_with_len (0 + 1) h)) each
+  row_ends row less = each_row_ends size idr source units is.fit is.source_is is.many is.lawful row less
 
   offsets_are : (a n k : ℕ) → a + n ≤ ctus size.h → AllByRecursion (λ o. (0 < o) × (o < 2 ^ 32)) (map length (take k (map escape (map codes (range_with_len a n)))))
   offsets_are a n zero h = tt
