@@ -90,7 +90,7 @@ hashed_are_read settings fit some = record {
 }
 
 pub hashed_streams_are_decoded : EachHashedStreamIsDecoded
-hashed_streams_are_decoded settings rasters size_is effort_is are =
+hashed_streams_are_decoded settings rasters size_is are =
     stream_is_decoded settings Hash (hashed_units settings)
     (hashed_are_read settings (size_fits settings.size size_is) (in_limits settings.size size_is).w_low)
     (sets_are_read settings.size false size_is (λ e. absurd (cc))) rasters are

@@ -198,7 +198,7 @@ moved_are_read settings fit some = record {
 }
 
 pub moved_streams_are_decoded : EachMovedStreamIsDecoded
-moved_streams_are_decoded settings rasters size_is effort_is are =
+moved_streams_are_decoded settings rasters size_is are =
     stream_is_decoded settings Moves (moved_slices settings)
     (moved_are_read settings (size_fits settings.size size_is) (in_limits settings.size size_is).w_low)
     (sets_are_read settings.size false size_is (λ e. absurd (cc))) rasters are

@@ -1,5 +1,5 @@
 -- Laws over the definitions of streams with moved blocks.
-use Rattle.std.specs.Prelude.{◌≡◌, ◌≤◌, ℕ, [], List, Ok, IsTrue, length}
+use Rattle.std.specs.Prelude.{◌≡◌, ℕ, [], List, Ok, IsTrue, length}
 use Rattle.std.specs.List.{AllByRecursion}
 use Rattle.h265_model.specs.declared.extra.Extra.TheVariants.{Moves}
 use Rattle.h265_model.specs.declared.leaf.SliceKind.TheVariants.{P}
@@ -22,5 +22,5 @@ EachMovedChoiceIsLawful =
 -- the stream of a list of pictures with moved blocks is decoded to them
 abbrev pub EachMovedStreamIsDecoded : Type 0
 EachMovedStreamIsDecoded =
-    (settings : Settings) (pictures : List Raster) → IsTrue (is_size settings.size) → settings.effort ≤ 2 → AllByRecursion (IsRaster settings.size) pictures →
+    (settings : Settings) (pictures : List Raster) → IsTrue (is_size settings.size) → AllByRecursion (IsRaster settings.size) pictures →
     decode_all (extra_stream settings Moves pictures) ≡ Ok (settings.size, pictures)

@@ -177,7 +177,7 @@ segmented_are_read settings fit some = record {
 }
 
 pub segmented_streams_are_decoded : EachSegmentedStreamIsDecoded
-segmented_streams_are_decoded settings rasters size_is effort_is wide are =
+segmented_streams_are_decoded settings rasters size_is wide are =
     stream_is_decoded settings Segments (segmented settings)
     (segmented_are_read settings (size_fits settings.size size_is) (in_limits settings.size size_is).w_low)
     (sets_are_read settings.size true size_is (λ e. wide)) rasters are

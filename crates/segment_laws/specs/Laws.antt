@@ -32,5 +32,5 @@ EachSegmentHeadIsSpelled =
 -- the stream of a list of pictures, each in a slice segment for each row of coding tree blocks, is decoded to them. Pictures have two such blocks in a row at least
 abbrev pub EachSegmentedStreamIsDecoded : Type 0
 EachSegmentedStreamIsDecoded =
-    (settings : Settings) (pictures : List Raster) → IsTrue (is_size settings.size) → settings.effort ≤ 2 → 32 < coded settings.size.w → AllByRecursion (IsRaster settings.size) pictures →
+    (settings : Settings) (pictures : List Raster) → IsTrue (is_size settings.size) → 32 < coded settings.size.w → AllByRecursion (IsRaster settings.size) pictures →
     decode_all (extra_stream settings Segments pictures) ≡ Ok (settings.size, pictures)

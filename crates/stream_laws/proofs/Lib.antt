@@ -8,3 +8,4 @@ pub mod SetsSpelling
 pub mod StreamForm
 pub mod Behind
 pub mod Prefixes
+pub mod PlainStreams

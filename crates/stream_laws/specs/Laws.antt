@@ -4,7 +4,7 @@ use Rattle.std.specs.List.{AllByRecursion}
 use Rattle.h265_model.specs.Plain.{Size, AreBytes, coded}
 use Rattle.h265_model.specs.NalUnits.{NalUnit}
 use Rattle.h265_model.specs.ParamSets.{param_units, set_units, read_sets}
-use Rattle.h265_model.specs.Raster.{Raster}
+use Rattle.h265_model.specs.Raster.{Raster, IsRaster}
 use Rattle.h265_model.specs.declared.extra.Extra.{Extra}
 use Rattle.h265_model.specs.declared.extra.Extra.TheVariants.{Plain}
 use Rattle.h265_model.specs.Words.{Settings, is_size}
@@ -33,6 +33,12 @@ EachSetIsSpelled =
 -- streams of pictures alone
 abbrev pub EachPlainStreamIsThat : Type 0
 EachPlainStreamIsThat = (settings : Settings) (pictures : List Raster) → extra_stream settings Plain pictures ≡ stream_of settings pictures
+
+-- they are decoded to the pictures
+abbrev pub EachPlainStreamIsDecoded : Type 0
+EachPlainStreamIsDecoded =
+    (settings : Settings) (pictures : List Raster) → IsTrue (is_size settings.size) → AllByRecursion (IsRaster settings.size) pictures →
+    decode_all (extra_stream settings Plain pictures) ≡ Ok (settings.size, pictures)
 
 -- a stream that was decoded without regard to moves, segments and hashes is decoded to the same
 abbrev pub EachOldStreamIsDecoded : Type 0

@@ -1,7 +1,7 @@
 //! Laws that tie streams with hashes, segments and moved blocks to plain ones, and laws of their parameter sets. Each function does nothing: its clause is the law.
 #![tactic(auto)]
 
-ghost use Rattle.stream_laws.specs.Laws.{EachSetIsPlain, EachSetIsRead, EachSetIsSpelled, EachPlainStreamIsThat, EachOldStreamIsDecoded, EachPieceIsKept};
+ghost use Rattle.stream_laws.specs.Laws.{EachSetIsPlain, EachSetIsRead, EachSetIsSpelled, EachPlainStreamIsThat, EachPlainStreamIsDecoded, EachOldStreamIsDecoded, EachPieceIsKept};
 
 /// Without segments the parameter sets are those of a size.
 pub fn each_set_is_plain()
@@ -21,6 +21,11 @@ pub fn each_set_is_spelled()
 /// The stream of pictures alone is the plain one.
 pub fn each_plain_stream_is_that()
     ensures { EachPlainStreamIsThat }
+{}
+
+/// The stream of each list of pictures alone is decoded to them.
+pub fn each_plain_stream_is_decoded()
+    ensures { EachPlainStreamIsDecoded }
 {}
 
 /// A stream that was decoded without regard to moves, segments and hashes is decoded to the same.
