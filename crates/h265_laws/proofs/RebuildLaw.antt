@@ -76,7 +76,7 @@ samples_are picture leaf component is = all_places (λ s. s < 256) (leaf_side le
 
 -- ---- one leaf
 
-pub third_of : {A : Type 0} (f : ℕ → A) (component : ℕ) (d : A) → component < 3 → get_or (f 0 ∷ f 1 ∷ f 2 ∷ []) component d ≡ f component
+third_of : {A : Type 0} (f : ℕ → A) (component : ℕ) (d : A) → component < 3 → get_or (f 0 ∷ f 1 ∷ f 2 ∷ []) component d ≡ f component
 third_of f zero d h = refl
 third_of f (suc zero) d h = refl
 third_of f (suc (suc zero)) d h = refl

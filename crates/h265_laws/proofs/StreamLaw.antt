@@ -55,13 +55,13 @@ leaves_of settings idr before raster = all_leaves settings (reference idr settin
 abbrev pub source_in : Settings → Raster → Source
 source_in settings raster = source_of settings.size (picture_of settings raster)
 
-abbrev pub rows_of : Settings → Bool → Option Raster → Raster → List (List ℕ)
+abbrev rows_of : Settings → Bool → Option Raster → Raster → List (List ℕ)
 rows_of settings idr before raster = map (row_code (slice_kind idr) settings.size (source_in settings raster) (leaves_of settings idr before raster)) (below (ctus settings.size.h))
 
-abbrev pub head_of : Settings → Bool → ℕ → Option Raster → Raster → Head
+abbrev head_of : Settings → Bool → ℕ → Option Raster → Raster → Head
 head_of settings idr poc before raster = record { idr = idr; poc = poc; offsets = map length (but_last (map escape (rows_of settings idr before raster))) }
 
-abbrev pub unit_with : Settings → Bool → ℕ → Option Raster → Raster → NalUnit
+abbrev unit_with : Settings → Bool → ℕ → Option Raster → Raster → NalUnit
 unit_with settings idr poc before raster = record {
   header = nal_header idr;
   rbsp = bytes (head_bits (head_of settings idr poc before raster)) ++ flat_map (λ r. r) (rows_of settings idr before raster);

@@ -1,4 +1,3 @@
 pub mod MovedChoice
-pub mod UnitLength
 pub mod MovedSlices
 pub mod MovedStreams

@@ -1,10 +1,10 @@
 -- The units that are chosen where blocks may move are lawful, and those that are copied are so of equal blocks.
-use Rattle.std.proofs.Common.{◌≡◌, refl, sym, ◌∙◌, ap, subst, ℕ, zero, suc, ◌+◌, ◌-◌, ◌*◌, ◌^◌, ◌<◌, ◌≤◌, List, [], ◌∷◌, ◌++◌, Bool, true, false, cond, not, ◌&&◌, get_or, map, take, inl, inr, length, arith, append-nil}
-use Rattle.std.specs.Prelude.{nat_abs, nat_le, MatchBool, ◌⊎◌, pos, neg_ℤ}
-use Rattle.std.specs.List.{AllByRecursion, filter, list_all, flat_map, range_with_len}
+use Rattle.std.proofs.Common.{◌≡◌, refl, sym, ◌∙◌, ap, subst, ℕ, zero, suc, ◌+◌, ◌*◌, ◌^◌, ◌<◌, ◌≤◌, List, [], ◌∷◌, ◌++◌, Bool, true, false, cond, not, ◌&&◌, get_or, map, take, inl, inr, length, arith}
+use Rattle.std.specs.Prelude.{nat_le, MatchBool, ◌⊎◌}
+use Rattle.std.specs.List.{AllByRecursion, filter, flat_map, range_with_len}
 use Rattle.std.proofs.lemmas.Bool.{and_parts}
 use Rattle.h265_model.specs.declared.leaf.SliceKind.TheVariants.{P}
-use Rattle.h265_model.specs.declared.leaf.Kind.TheVariants.{Pcm, Intra}
+use Rattle.h265_model.specs.declared.leaf.Kind.TheVariants.{Intra}
 use Rattle.h265_model.specs.declared.leaf.Leaf.{Leaf}
 use Rattle.h265_model.specs.declared.moves.Vector.{Vector}
 use Rattle.h265_model.specs.declared.moves.MoveLeaf.{MoveLeaf}
@@ -16,7 +16,7 @@ use Rattle.h265_model.specs.Tree.{is_whole, samples_in}
 use Rattle.h265_model.specs.Choice.{intra_cost, same, modes_of}
 use Rattle.h265_model.specs.Motion.{Moving, merge, has_source, leaf_as_coded, as_coded, coded_after}
 use Rattle.h265_model.specs.MotionRebuild.{moved_samples}
-use Rattle.h265_model.specs.MotionChoice.{MovePlan, cheaper, cheapest, best_of, unit_at, one_unit, vectors_of, tried_vectors, is_copy_by, skip_plans, move_plans, intra_plans, unit_plan, no_units, and_part, split_plan, plan, moved_choice, moved_choices}
+use Rattle.h265_model.specs.MotionChoice.{MovePlan, cheaper, cheapest, best_of, unit_at, one_unit, vectors_of, tried_vectors, is_copy_by, skip_plans, move_plans, unit_plan, no_units, split_plan, plan, moved_choice, moved_choices}
 use Rattle.h265_model.specs.Walks.{coded_first}
 use Rattle.h265_model.proofs.ListParts.{all_append}
 use Rattle.h265_laws.proofs.ChoiceLaw.{modes_are, same_is}

@@ -1,9 +1,8 @@
 -- The slice of a picture's units is read, and then the picture.
-use Rattle.std.proofs.Common.{◌≡◌, refl, sym, ◌∙◌, ap, subst, ℕ, zero, suc, ◌+◌, ◌-◌, ◌*◌, ◌^◌, ◌<◌, ◌≤◌, List, [], ◌∷◌, ◌++◌, Bool, true, false, cond, length, drop, map, take, take_all, append_assoc, append-nil, arith, le_refl}
-use Rattle.std.specs.Prelude.{Option, Some, None, Ok, Result, IsTrue}
+use Rattle.std.proofs.Common.{◌≡◌, refl, sym, ◌∙◌, ap, subst, ℕ, zero, suc, ◌+◌, ◌-◌, ◌*◌, ◌^◌, ◌<◌, ◌≤◌, List, [], ◌∷◌, ◌++◌, Bool, true, false, cond, length, drop, map, take, append_assoc, append-nil, arith}
+use Rattle.std.specs.Prelude.{Option, Some, None, Ok, Result}
 use Rattle.std.specs.List.{AllByRecursion, flat_map, range_with_len}
 use Rattle.std.proofs.lemmas.Bool.{cond-true}
-use Rattle.std.proofs.lemmas.Grind.{flat_map-append}
 use Rattle.std.proofs.lemmas.List.{length-map}
 use Rattle.std.proofs.lemmas.List.FromFn.{length-map-range_with_len}
 use Rattle.h265_model.specs.declared.leaf.SliceKind.{SliceKind}
@@ -15,7 +14,6 @@ use Rattle.h265_model.specs.NalUnits.{NalUnit, IsNalUnit, escape, start_code, na
 use Rattle.h265_model.specs.SliceHead.{Head, IsHead, head_bits, read_head}
 use Rattle.h265_model.specs.Contexts.{row_start}
 use Rattle.h265_model.specs.Tree.{Source, IsSource}
-use Rattle.h265_model.specs.Slice.{substreams}
 use Rattle.h265_model.specs.Stream.{slice_kind, nal_header, but_last, slice_piece}
 use Rattle.h265_model.specs.Decode.{Decoded, ok_of}
 use Rattle.h265_model.specs.Motion.{Moving}
@@ -35,7 +33,7 @@ use Rattle.unit_laws.specs.Laws.{AreLawfulUnits}
 use Rattle.unit_laws.proofs.Coded.{IsCoded}
 use Rattle.unit_laws.proofs.UnitRows.{row_values, read_first, coded_is, row_read_on, row_is_read, contexts_are, next_start, slice_row}
 use Rattle.unit_laws.proofs.UnitForm.{AllUnitsHaveSides, lawful_sides, slice_form}
-use Rattle.motion_laws.proofs.UnitLength.{entry_fits}
+use Rattle.unit_laws.proofs.UnitLength.{entry_fits}
 
 -- ---- a slice of rows
 
@@ -60,7 +58,7 @@ two_bytes : (b : Bool) → (first second : ℕ) × (0 < second) × (nal_header b
 two_bytes true = (0x28, 1, omega arith, refl)
 two_bytes false = (0x02, 1, omega arith, refl)
 
-pub unit_is : (idr : Bool) (poc : ℕ) (row : List ℕ) (rows : List (List ℕ)) → AllByRecursion Ends (row ∷ rows) → IsNalUnit (slice_unit idr poc (row ∷ rows))
+unit_is : (idr : Bool) (poc : ℕ) (row : List ℕ) (rows : List (List ℕ)) → AllByRecursion Ends (row ∷ rows) → IsNalUnit (slice_unit idr poc (row ∷ rows))
 unit_is idr poc row rows each =
     let front : List ℕ = bytes (head_bits (head_of idr poc (row ∷ rows))) in
     record { header = two_bytes idr; ends = ends_well (front ++ flat_map (λ r. r) (row ∷ rows)) (ends_append front (flat_map (λ r. r) (row ∷ rows)) (rows_end row rows each)) }
@@ -181,6 +179,7 @@ module _ (size : Size) (idr : Bool) (poc : ℕ) (source : Source) (units : List 
       ap (λ (o : Option (List ReadCtu)). and_then o (λ read. and_then (rows_read kind size (row + 1) (units_after before (units_of read)) (handed_on read) more) (λ others. Some (units_of read ++ others)))) (one_row row handed (omega arith) starts)
       ∙ (ap (λ (b : List Moving). and_then (rows_read kind size (row + 1) b (handed_on (values row)) more) (λ others. Some (units_of (values row) ++ others))) (next_before row)
       ∙ ap (λ (o : Option (List ReadUnit)). and_then o (λ others. Some (units_of (values row) ++ others))) (rows_are_read n (row + 1) (handed_on (values row)) (omega arith) next))
+
   rows_units : (n row : ℕ) → read_first source units (row * ctus size.w) ++ units_from_row row n ≡ read_first source units ((row + n) * ctus size.w)
   unfolding units_from_row values
   rows_units zero row = append-nil (read_first source units (row * ctus size.w)) ∙ (let e : row ≡ row + 0 = omega arith in ap (λ (k : ℕ). read_first source units (k * ctus size.w)) e)

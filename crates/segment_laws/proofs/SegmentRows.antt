@@ -1,6 +1,6 @@
 -- The segments of a picture's rows are read, one after another, and then the picture.
-use Rattle.std.proofs.Common.{◌≡◌, refl, sym, ◌∙◌, ap, subst, ℕ, zero, suc, ◌+◌, ◌*◌, ◌^◌, ◌<◌, ◌≤◌, List, [], ◌∷◌, ◌++◌, Bool, true, false, cond, length, drop, map, arith, le_refl}
-use Rattle.std.specs.Prelude.{Option, Some, None, Ok, Err, Result, IsTrue, ◌==◌}
+use Rattle.std.proofs.Common.{◌≡◌, refl, sym, ◌∙◌, ap, subst, ℕ, zero, suc, ◌+◌, ◌*◌, ◌^◌, ◌<◌, ◌≤◌, List, [], ◌∷◌, ◌++◌, Bool, true, false, length, drop, map, arith}
+use Rattle.std.specs.Prelude.{Option, Some, None, Ok, Err, Result, ◌==◌}
 use Rattle.std.specs.List.{range_with_len}
 use Rattle.std.proofs.lemmas.Bool.{cond-true, cond-false, eq-eqb, ne_eqb}
 use Rattle.std.specs.Bool.{beq}
@@ -14,7 +14,7 @@ use Rattle.h265_model.specs.Raster.{Raster, planes, crop}
 use Rattle.h265_model.specs.NalUnits.{NalUnit}
 use Rattle.h265_model.specs.SliceHead.{segment_bits, read_segment_head}
 use Rattle.h265_model.specs.Contexts.{row_start}
-use Rattle.h265_model.specs.Tree.{Source, IsSource}
+use Rattle.h265_model.specs.Tree.{Source}
 use Rattle.h265_model.specs.Motion.{Moving}
 use Rattle.h265_model.specs.Stream.{slice_kind, nal_header}
 use Rattle.h265_model.specs.Decode.{Decoded, decoded_picture, ok_of}
@@ -22,13 +22,11 @@ use Rattle.h265_model.specs.MotionTree.{ReadUnit, ReadCtu, units_of, moving_of}
 use Rattle.h265_model.specs.MotionSlice.{segment_row_read, row_of_bytes, segment_read, handed_on}
 use Rattle.h265_model.specs.MotionRebuild.{rebuild}
 use Rattle.h265_model.specs.Walks.{move_unit, coded_first, contexts_of, segment_code_of}
-use Rattle.h265_model.specs.DecodeAll.{Begun, Stand, referred, is_next, whole, before_segment, next_row, after_segment, segment_step, picture_step, step, shown, read_units}
+use Rattle.h265_model.specs.DecodeAll.{Begun, Stand, referred, is_next, before_segment, next_row, after_segment, segment_step, step, read_units}
 use Rattle.h265_model.proofs.ListParts.{drop_front}
-use Rattle.h265_laws.proofs.PictureLaw.{IsFit}
 use Rattle.h265_laws.proofs.SliceLaw.{rows_fit}
 use Rattle.stream_laws.proofs.OldStreams.{now_whole}
 use Rattle.stream_laws.proofs.StreamForm.{one_step}
-use Rattle.unit_laws.specs.Laws.{AreLawfulUnits}
 use Rattle.unit_laws.proofs.UnitRows.{row_values, read_first, coded_is, row_read_on, row_is_read, contexts_are, next_start, segment_row}
 use Rattle.unit_laws.proofs.Coded.{IsCoded}
 use Rattle.unit_laws.proofs.UnitForm.{lawful_sides, segment_form}

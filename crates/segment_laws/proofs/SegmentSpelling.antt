@@ -1,5 +1,5 @@
 -- The law of slice segment headers: nothing else is read as one.
-use Rattle.std.proofs.Common.{◌≡◌, refl, sym, ◌∙◌, ap, subst, ℕ, zero, suc, ◌+◌, ◌-◌, ◌/◌, ◌<◌, Bool, List, [], ◌∷◌, ◌++◌, length, take, Ok, arith, append_assoc, length-append}
+use Rattle.std.proofs.Common.{◌≡◌, refl, sym, ◌∙◌, ap, subst, ℕ, zero, suc, ◌+◌, ◌-◌, ◌/◌, Bool, List, [], ◌∷◌, ◌++◌, length, take, Ok, arith, append_assoc, length-append}
 use Rattle.h265_model.specs.Script.{◌>>-◌}
 use Rattle.h265_model.specs.Plain.{AreBytes}
 use Rattle.h265_model.specs.Bits.{bits, bytes, alignment, read_alignment}
@@ -41,8 +41,8 @@ first_is rbsp idr ctus found are h =
     let is = read_head-is rbsp idr 1 head.value.0 head.value.1 are (omega arith) head.first in
     subst (IsSpelled rbsp idr zero ctus) same (
       is.2
-      ∙ (ap (λ (b : Bool). bytes (head_bits (record { idr = b; poc = head.value.0.poc; offsets = head.value.0.offsets }))) is.0
-      ∙ ap (λ (l : List ℕ). bytes (head_bits (record { idr = idr; poc = head.value.0.poc; offsets = l }))) (none_of head.value.0.offsets is.1)),
+          ∙ (ap (λ (b : Bool). bytes (head_bits (record { idr = b; poc = head.value.0.poc; offsets = head.value.0.offsets }))) is.0
+          ∙ ap (λ (l : List ℕ). bytes (head_bits (record { idr = idr; poc = head.value.0.poc; offsets = l }))) (none_of head.value.0.offsets is.1)),
       refl,
     )
 

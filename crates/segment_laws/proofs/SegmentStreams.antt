@@ -1,7 +1,7 @@
 -- The stream of pictures in a slice segment for each row is decoded to them.
-use Rattle.std.proofs.Common.{◌≡◌, refl, sym, ◌∙◌, ap, ℕ, zero, suc, ◌+◌, ◌*◌, ◌%◌, ◌<◌, ◌≤◌, List, [], ◌∷◌, ◌++◌, Bool, true, false, length, map, take, take_all, append_assoc, arith}
-use Rattle.std.specs.Prelude.{Option, Some, None, Ok, Result}
-use Rattle.std.specs.List.{AllByRecursion, flat_map, range_with_len}
+use Rattle.std.proofs.Common.{◌≡◌, refl, sym, ◌∙◌, ap, ℕ, zero, suc, ◌+◌, ◌*◌, ◌%◌, ◌<◌, List, [], ◌∷◌, ◌++◌, Bool, true, false, length, map, take, take_all, append_assoc, arith}
+use Rattle.std.specs.Prelude.{Option, None, Ok}
+use Rattle.std.specs.List.{AllByRecursion, flat_map}
 use Rattle.std.proofs.lemmas.List.{length-map}
 use Rattle.h265_model.specs.declared.extra.Extra.TheVariants.{Segments}
 use Rattle.h265_model.specs.declared.leaf.SliceKind.{SliceKind}
@@ -11,7 +11,7 @@ use Rattle.h265_model.specs.Plain.{Size, Picture, ctus, below, joined}
 use Rattle.h265_model.specs.Bits.{bytes}
 use Rattle.h265_model.specs.Script.{◌>>-◌}
 use Rattle.h265_model.specs.Words.{Settings}
-use Rattle.h265_model.specs.Raster.{Raster, IsRaster, planes}
+use Rattle.h265_model.specs.Raster.{Raster, IsRaster}
 use Rattle.h265_model.specs.NalUnits.{NalUnit, IsNalUnit, escape, start_code, nal_unit_bytes, stream_bytes}
 use Rattle.h265_model.specs.Fields.{fields_bits}
 use Rattle.h265_model.specs.SliceHead.{head_bits, head_fields, dependent_fields, segment_bits}
@@ -37,7 +37,6 @@ use Rattle.stream_laws.proofs.Behind.{IsBehind, behind_is, low_count, zero_count
 use Rattle.unit_laws.specs.Laws.{AreLawfulUnits}
 use Rattle.unit_laws.proofs.StillUnits.{lawful_still, first_reads, segment_code_still}
 use Rattle.unit_laws.proofs.UnitForm.{lawful_sides, segment_form}
-use Rattle.unit_laws.proofs.UnitRows.{read_first}
 use Rattle.segment_laws.specs.Laws.{EachSegmentedStreamIsDecoded}
 use Rattle.unit_laws.proofs.Coded.{IsCoded}
 use Rattle.segment_laws.proofs.SegmentRows.{row_unit, decoded, picture_is_read}

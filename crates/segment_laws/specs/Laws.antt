@@ -1,5 +1,5 @@
 -- Laws over the definitions of streams with a slice segment for each row: what is written is read back, and nothing else is read.
-use Rattle.std.specs.Prelude.{◌≡◌, ◌≤◌, ◌<◌, ℕ, zero, suc, ◌+◌, ◌^◌, List, ◌++◌, Ok, Bool, IsTrue, length, take}
+use Rattle.std.specs.Prelude.{◌≡◌, ◌≤◌, ◌<◌, ℕ, zero, suc, ◌^◌, List, ◌++◌, Ok, Bool, IsTrue, length, take}
 use Rattle.std.specs.List.{AllByRecursion}
 use Rattle.h265_model.specs.declared.extra.Extra.TheVariants.{Segments}
 use Rattle.h265_model.specs.Plain.{AreBytes, coded}

@@ -1,6 +1,6 @@
 -- What stands before a picture that is decoded: the picture that it refers to, and the order count that comes next.
-use Rattle.std.proofs.Common.{◌≡◌, refl, sym, ◌∙◌, ap, subst, ℕ, ◌+◌, ◌*◌, ◌%◌, ◌<◌, List, [], ◌∷◌, Bool, true, false, take, length, arith, le_refl, mod-lt, take_all}
-use Rattle.std.specs.Prelude.{Option, Some, None, ◌==◌}
+use Rattle.std.proofs.Common.{◌≡◌, refl, sym, ◌∙◌, ap, subst, ℕ, ◌+◌, ◌*◌, ◌%◌, ◌<◌, List, [], Bool, true, false, take, length, arith, le_refl, mod-lt, take_all}
+use Rattle.std.specs.Prelude.{Option, Some, None}
 use Rattle.std.specs.List.{AllByRecursion}
 use Rattle.std.proofs.lemmas.Bool.{eq-eqb}
 use Rattle.h265_model.specs.declared.leaf.SliceKind.TheVariants.{P}

@@ -28,7 +28,7 @@ places_same : (w h : ℕ) (f g : ℕ → ℕ → ℕ) → ((x y : ℕ) → f x y
 places_same w h f g e = flat_same (λ y. map (λ x. f x y) (below w)) (λ y. map (λ x. g x y) (below w)) (λ y. map_same (λ x. f x y) (λ x. g x y) (λ x. e x y) (below w)) (below h)
 
 -- a block copied without motion
-pub copied_same : (prev : Picture) (leaf : Leaf) (component : ℕ) → moved_samples prev leaf no_motion component ≡ samples_in prev leaf component
+copied_same : (prev : Picture) (leaf : Leaf) (component : ℕ) → moved_samples prev leaf no_motion component ≡ samples_in prev leaf component
 unfolding moved_samples
 copied_same prev leaf component =
     places_same (leaf_side leaf) (leaf_side leaf) _ _ (λ x y.

@@ -28,7 +28,7 @@ use Rattle.stream_laws.proofs.OldPictures.{rebuild_same}
 -- ---- slices
 
 -- the header of an IDR picture has the order count 0
-pub idr_order : (rbsp : List ℕ) (rows : ℕ) (found : Head × ℕ) → read_head rbsp true rows ≡ Ok found → found.0.poc ≡ 0
+idr_order : (rbsp : List ℕ) (rows : ℕ) (found : Head × ℕ) → read_head rbsp true rows ≡ Ok found → found.0.poc ≡ 0
 unfolding read_head
 idr_order rbsp rows found h = front (read_fields (head_front true) (bits rbsp)) h
   where
@@ -64,7 +64,7 @@ idr_order rbsp rows found h = front (read_fields (head_front true) (bits rbsp)) 
 abbrev pub now_whole : Decoded → Stand
 now_whole now = record { last = Some now; begun = None; ended = true }
 
-pub ok_is : {A E : Type 0} (r : Result A E) (x : A) → ok_of r ≡ Some x → r ≡ Ok x
+ok_is : {A E : Type 0} (r : Result A E) (x : A) → ok_of r ≡ Some x → r ≡ Ok x
 ok_is {A = A} {E = E} (Ok y) x h = ap back h
   where
     back : Option A → Result A E
@@ -73,7 +73,7 @@ ok_is {A = A} {E = E} (Ok y) x h = ap back h
 ok_is (Err e) x h = absurd (cc)
 
 -- what a slice gives, where its order count is the next one
-pub slice_whole : (size : Size) (idr : Bool) (stand : Stand) (before : Option Decoded) (rbsp : List ℕ) (now : Decoded)
+slice_whole : (size : Size) (idr : Bool) (stand : Stand) (before : Option Decoded) (rbsp : List ℕ) (now : Decoded)
     → ((units : List ReadUnit) (poc : ℕ) → whole size stand idr poc units ≡ Some (now_whole (record { poc = poc; planes = rebuild size (reference_of size before) units })))
     → ((found : Head × ℕ) → read_head rbsp idr (ctus size.h) ≡ Ok found → found.0.poc ≡ now.poc → is_next idr stand.last found.0.poc ≡ true)
     → read_slice size idr before rbsp ≡ Some now → slice_step size idr stand rbsp ≡ Some (now_whole now)

@@ -1,6 +1,6 @@
 -- The stream of pictures alone is decoded to them.
-use Rattle.std.proofs.Common.{◌≡◌, refl, sym, ◌∙◌, ap, ℕ, ◌+◌, ◌%◌, ◌<◌, List, [], ◌∷◌, Bool, true, false, append-nil}
-use Rattle.std.specs.Prelude.{Option, Some, None, Ok, Result}
+use Rattle.std.proofs.Common.{refl, sym, ◌∙◌, ap, ℕ, ◌+◌, ◌%◌, ◌<◌, List, [], ◌∷◌, false, append-nil}
+use Rattle.std.specs.Prelude.{Option, Ok}
 use Rattle.h265_model.specs.declared.extra.Extra.TheVariants.{Plain}
 use Rattle.h265_model.specs.Plain.{Size}
 use Rattle.h265_model.specs.Script.{◌>>-◌}

@@ -1,19 +1,18 @@
 -- Streams whose pictures are NAL units of any kind are decoded to them, where each picture's NAL units are read.
-use Rattle.std.proofs.Common.{◌≡◌, refl, sym, ◌∙◌, ap, ℕ, ◌+◌, ◌%◌, List, [], ◌∷◌, ◌++◌, Bool, length, drop, take, arith}
-use Rattle.std.specs.Prelude.{Option, Some, None, Ok, Err, Result, IsTrue, nat_lt}
+use Rattle.std.proofs.Common.{◌≡◌, refl, sym, ◌∙◌, ap, ℕ, ◌+◌, ◌%◌, List, [], ◌∷◌, ◌++◌, Bool, length, drop, arith}
+use Rattle.std.specs.Prelude.{Option, Some, None, Ok, Result}
 use Rattle.std.specs.List.{AllByRecursion, flat_map}
 use Rattle.std.proofs.lemmas.Bool.{le-ltb}
 use Rattle.std.proofs.lemmas.Grind.{flat_map-append}
 use Rattle.h265_model.specs.declared.extra.Extra.{Extra}
 use Rattle.h265_model.specs.Plain.{Size}
-use Rattle.h265_model.specs.Bits.{◌>>=◌}
 use Rattle.h265_model.specs.Script.{◌>>-◌}
-use Rattle.h265_model.specs.Words.{Settings, is_size}
+use Rattle.h265_model.specs.Words.{Settings}
 use Rattle.h265_model.specs.Raster.{Raster, IsRaster}
 use Rattle.h265_model.specs.NalUnits.{NalUnit, IsNalUnit, nal_unit_bytes, stream_bytes, units}
 use Rattle.h265_model.specs.ParamSets.{vps_fields, sps_fields, pps_fields_of, set_units, read_sets}
 use Rattle.h265_model.specs.Stream.{order_count}
-use Rattle.h265_model.specs.Decode.{Decoded, units_or_number}
+use Rattle.h265_model.specs.Decode.{Decoded}
 use Rattle.h265_model.specs.ExtraStream.{has_segments, extra_piece, extra_pieces_after, extra_pieces, extra_stream}
 use Rattle.h265_model.specs.DecodeAll.{Stand, Begun, at_first, at_end, step, shown, at_number, read_units, sets_or_number, decode_all}
 use Rattle.h265_model.proofs.UnitLaws.{units-stream_bytes}

@@ -8,3 +8,4 @@ pub mod StillUnits
 pub mod UnitCover
 pub mod UnitRebuild
 pub mod Coded
+pub mod UnitLength

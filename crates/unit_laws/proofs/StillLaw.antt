@@ -20,7 +20,7 @@ use Rattle.unit_laws.specs.Laws.{EachRowIsStill}
 
 -- ---- leaves and units
 
-pub kind_still : (k : Kind) → kind_as_coded (still_kind k) ≡ k
+kind_still : (k : Kind) → kind_as_coded (still_kind k) ≡ k
 kind_still Skip = refl
 kind_still Pcm = refl
 kind_still (Intra mode) = refl
@@ -179,7 +179,7 @@ flag_same kind size source unit u ls ctu =
     ∙ ctu_same kind size source unit u (coded_first (map (map still) ls) ctu) (joined (take ctu ls)) (get_or ls ctu []) ctu
     (ap (λ (us : List MoveLeaf). leaves (coded_after [] us)) (first_same ctu ls) ∙ coded_same [] (joined (take ctu ls))))
 
-pub ctus_same : (kind : SliceKind) (size : Size) (source : Source) (unit : UnitItems) → WritesLeaves kind source unit
+ctus_same : (kind : SliceKind) (size : Size) (source : Source) (unit : UnitItems) → WritesLeaves kind source unit
     → (ls : List (List Leaf)) (row n : ℕ) → ctus_items_of unit size (is_last size) (map (map still) ls) row n ≡ ctus_items kind size source ls row n
 ctus_same kind size source unit u ls row n = flat_same _ _ (λ i. flag_same kind size source unit u ls (row * ctus size.w + i)) (below n)
 

@@ -1,7 +1,6 @@
 -- Units that don't move are lawful where blocks may move, and what is read of them is what was read of leaves.
-use Rattle.std.proofs.Common.{◌≡◌, refl, sym, ◌∙◌, ap, subst, ℕ, zero, suc, ◌+◌, ◌*◌, ◌^◌, ◌<◌, ◌≤◌, List, [], ◌∷◌, ◌++◌, Bool, true, false, ⊎_elim, take, map, get_or, inl, inr, append_assoc, arith}
-use Rattle.std.specs.Prelude.{Option, Some, None, MatchBool, ◌⊎◌}
-use Rattle.std.specs.List.{AllByRecursion}
+use Rattle.std.proofs.Common.{◌≡◌, refl, sym, ◌∙◌, ap, subst, ℕ, zero, suc, ◌+◌, ◌*◌, ◌^◌, ◌<◌, ◌≤◌, List, [], ◌∷◌, ◌++◌, Bool, true, false, ⊎_elim, take, map, get_or, inl, inr, arith}
+use Rattle.std.specs.Prelude.{MatchBool, ◌⊎◌}
 use Rattle.std.proofs.lemmas.Bool.{and_from}
 use Rattle.h265_model.specs.declared.Item.{Item}
 use Rattle.h265_model.specs.declared.leaf.SliceKind.{SliceKind}
@@ -9,24 +8,23 @@ use Rattle.h265_model.specs.declared.leaf.SliceKind.TheVariants.{I, P}
 use Rattle.h265_model.specs.declared.leaf.Kind.{Kind}
 use Rattle.h265_model.specs.declared.leaf.Kind.TheVariants.{Skip, Pcm, Intra}
 use Rattle.h265_model.specs.declared.leaf.Leaf.{Leaf}
-use Rattle.h265_model.specs.declared.moves.Vector.{Vector}
 use Rattle.h265_model.specs.declared.moves.MoveLeaf.{MoveLeaf}
 use Rattle.h265_model.specs.Plain.{Size, coded, ctus, joined, ctu_x, ctu_y}
 use Rattle.h265_model.specs.Predict.{is_inside}
 use Rattle.h265_model.specs.Code.{code}
 use Rattle.h265_model.specs.Tree as Tree
 use Rattle.h265_model.specs.Tree.{Source, IsTree, IsLawfulTree, IsCodingUnit, AreQuarters, AreLawfulTrees, IsMode, AreModes, IsAllowed, AreAllowed, is_whole, leaf_side}
-use Rattle.h265_model.specs.Motion.{Moving, leaf_as_coded, as_coded, coded_after, kind_vector, merge, no_motion, has_source, still, still_kind}
+use Rattle.h265_model.specs.Motion.{Moving, as_coded, coded_after, kind_vector, merge, has_source, still, still_kind}
 use Rattle.h265_model.specs.MotionTree.{ReadUnit, Content, Copied, ends_row}
-use Rattle.h265_model.specs.Walks.{UnitItems, still_unit, move_unit, ctu_items_of, coded_first, ctu_with_end, ctus_items_of, segment_items_of, contexts_of, segment_code_of}
+use Rattle.h265_model.specs.Walks.{UnitItems, still_unit, move_unit, ctu_items_of, coded_first, ctu_with_end, segment_items_of, contexts_of, segment_code_of}
 use Rattle.h265_model.specs.Plain.{below, terminate_bin}
-use Rattle.h265_laws.proofs.Coverage.{Covers, IsPlaced, ArePlaced, CoversBlock, ctu_covers}
+use Rattle.h265_laws.proofs.Coverage.{Covers, ArePlaced, CoversBlock, ctu_covers}
 use Rattle.h265_laws.proofs.CoverLaw.{joined_cover}
 use Rattle.h265_laws.proofs.TreeLaw.{tree_modes}
 use Rattle.stream_laws.proofs.OldTree.{content_as, unit_as, units_as, IsStill, AreStill, still-append, merge_still, fits}
-use Rattle.unit_laws.specs.Laws.{CanStand, CanStandAll, unit_content, reads_after, IsOneUnit, AreFourParts, IsUnitTree, AreLawfulUnits}
+use Rattle.h265_model.specs.Slice.{contexts_at}
+use Rattle.unit_laws.specs.Laws.{segment_of_leaves, EachSegmentIsStill, CanStand, CanStandAll, unit_content, reads_after, IsOneUnit, AreFourParts, IsUnitTree, AreLawfulUnits}
 use Rattle.unit_laws.proofs.StillLaw.{leaf_still, WritesLeaves, still_writes, move_writes, coded_same, map-append, first_same, at_same, flat_same, ctu_same, contexts_same}
-use Rattle.unit_laws.proofs.UnitRows.{first_more}
 
 -- ---- units that stay still
 
@@ -42,7 +40,7 @@ coded_still : (before : List Moving) (ls : List Leaf) → AreStill before → Ar
 coded_still before [] h = h
 coded_still before (leaf ∷ ls) h = coded_still (before ++ as_coded before (still leaf) ∷ []) ls (one_still before leaf h)
 
-pub first_still : (ls : List (List Leaf)) (n : ℕ) → AreStill (coded_first (map (map still) ls) n)
+first_still : (ls : List (List Leaf)) (n : ℕ) → AreStill (coded_first (map (map still) ls) n)
 first_still ls n = subst (λ (us : List MoveLeaf). AreStill (coded_after [] us)) (sym (first_same n ls)) (coded_still [] (joined (take n ls)) tt)
 
 -- ---- they can stand
@@ -149,27 +147,31 @@ first_reads source leaves n = ap (reads_after source []) (first_same n leaves) �
 
 -- ---- what is written of them
 
+-- a row as a segment is the leaves' items and flags, from the contexts that leaves have
+pub segments_are_still : EachSegmentIsStill
+unfolding segment_items_of
+segments_are_still kind size source ls row =
+    let units : List (List MoveLeaf) = map (map still) ls in
+    let still_items : segment_items_of (still_unit kind source) size units row ≡ segment_of_leaves kind size source ls row = flat_same _ _ (λ i. ctu_is (still_unit kind source) (still_writes kind source) (row * ctus size.w + i)) (below (ctus size.w)) in
+    let move_items : segment_items_of (move_unit kind source) size units row ≡ segment_of_leaves kind size source ls row = flat_same _ _ (λ i. ctu_is (move_unit kind source) (move_writes kind source) (row * ctus size.w + i)) (below (ctus size.w)) in
+    let still_contexts : contexts_of kind (still_unit kind source) size units row ≡ contexts_at kind size source ls row = contexts_same kind size source (still_unit kind source) (still_writes kind source) ls row in
+    let move_contexts : contexts_of kind (move_unit kind source) size units row ≡ contexts_at kind size source ls row = contexts_same kind size source (move_unit kind source) (move_writes kind source) ls row in (
+      ap (λ (l : List Item). code l (contexts_of kind (still_unit kind source) size units row)) still_items ∙ ap (code (segment_of_leaves kind size source ls row)) still_contexts,
+      ap (λ (l : List Item). code l (contexts_of kind (move_unit kind source) size units row)) move_items ∙ ap (code (segment_of_leaves kind size source ls row)) move_contexts,
+    )
+  where
+    leaves_after : List MoveLeaf → List Leaf
+    leaves_after us = map (λ (u : Moving). u.leaf) (coded_after [] us)
+
+    ctu_is : (unit : UnitItems) → WritesLeaves kind source unit → (ctu : ℕ) → ctu_with_end unit size (ends_row size) (map (map still) ls) ctu
+        ≡ Tree.ctu_items kind size source (joined (take ctu ls)) (get_or ls ctu []) ctu ++ terminate_bin (ends_row size ctu) ∷ []
+    ctu_is unit u ctu =
+        ap (λ (l : List Item). l ++ terminate_bin (ends_row size ctu) ∷ [])
+        (ap (λ (us : List MoveLeaf). ctu_items_of unit size (coded_first (map (map still) ls) ctu) us ctu) (at_same ctu ls)
+        ∙ ctu_same kind size source unit u (coded_first (map (map still) ls) ctu) (joined (take ctu ls)) (get_or ls ctu []) ctu
+        (ap (λ (us : List MoveLeaf). leaves_after us) (first_same ctu ls) ∙ coded_same [] (joined (take ctu ls))))
+
 -- a segment's data is the same where nothing moves and where blocks may move
 pub segment_code_still : (kind : SliceKind) (size : Size) (source : Source) (ls : List (List Leaf)) (row : ℕ)
     → segment_code_of kind (still_unit kind source) size (map (map still) ls) row ≡ segment_code_of kind (move_unit kind source) size (map (map still) ls) row
-unfolding segment_items_of
-segment_code_still kind size source ls row =
-    ap (λ (l : List Item). code l (contexts_of kind (still_unit kind source) size units row)) (flat_same _ _ (λ i. same (row * ctus size.w + i)) (below (ctus size.w)))
-    ∙ ap (code (segment_items_of (move_unit kind source) size units row)) (contexts_same kind size source (still_unit kind source) (still_writes kind source) ls row ∙ sym (contexts_same kind size source (move_unit kind source) (move_writes kind source) ls row))
-  where
-    units : List (List MoveLeaf)
-    units = map (map still) ls
-
-    items_are : (unit : UnitItems) → WritesLeaves kind source unit → (ctu : ℕ) → ctu_items_of unit size (coded_first units ctu) (get_or units ctu []) ctu ≡ Tree.ctu_items kind size source (joined (take ctu ls)) (get_or ls ctu []) ctu
-    items_are unit u ctu =
-        ap (λ (us : List MoveLeaf). ctu_items_of unit size (coded_first units ctu) us ctu) (at_same ctu ls)
-        ∙ ctu_same kind size source unit u (coded_first units ctu) (joined (take ctu ls)) (get_or ls ctu []) ctu
-        (ap (λ (us : List MoveLeaf). leaves_after us) (first_same ctu ls) ∙ coded_same [] (joined (take ctu ls)))
-      where
-        leaves_after : List MoveLeaf → List Leaf
-        leaves_after us = map (λ (u : Moving). u.leaf) (coded_after [] us)
-
-    same : (ctu : ℕ) → ctu_with_end (still_unit kind source) size (ends_row size) units ctu ≡ ctu_with_end (move_unit kind source) size (ends_row size) units ctu
-    same ctu =
-        ap (λ (l : List Item). l ++ terminate_bin (ends_row size ctu) ∷ [])
-        (items_are (still_unit kind source) (still_writes kind source) ctu ∙ sym (items_are (move_unit kind source) (move_writes kind source) ctu))
+segment_code_still kind size source ls row = let e = segments_are_still kind size source ls row in e.0 ∙ sym e.1

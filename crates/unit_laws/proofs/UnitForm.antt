@@ -1,6 +1,6 @@
 -- The items of rows are well formed where blocks may move, in slices and as segments.
-use Rattle.std.proofs.Common.{◌≡◌, refl, sym, ◌∙◌, ap, subst, ℕ, zero, suc, ◌+◌, ◌-◌, ◌*◌, ◌%◌, ◌^◌, ◌<◌, ◌≤◌, List, [], ◌∷◌, ◌++◌, Bool, true, false, cond, not, ⊎_elim, length, take, get_or, append-nil, arith, le_refl}
-use Rattle.std.specs.Prelude.{nat_lt, nat_abs, ◌==◌, ℤ, MatchBool, ◌⊎◌}
+use Rattle.std.proofs.Common.{◌≡◌, refl, sym, ◌∙◌, ap, subst, ℕ, zero, suc, ◌+◌, ◌-◌, ◌*◌, ◌%◌, ◌^◌, ◌<◌, ◌≤◌, List, [], ◌∷◌, ◌++◌, Bool, true, false, cond, not, ⊎_elim, length, get_or, append-nil, arith, le_refl}
+use Rattle.std.specs.Prelude.{nat_abs, ◌==◌, MatchBool, ◌⊎◌}
 use Rattle.std.specs.List.{AllByRecursion}
 use Rattle.std.proofs.lemmas.Bool.{eqb-true, eqb-false, eq-eqb, ne_eqb, cases_lt}
 use Rattle.std.proofs.lemmas.Nat.{row_fits, mod-mul-add}
@@ -11,15 +11,15 @@ use Rattle.h265_model.specs.declared.moves.Vector.{Vector}
 use Rattle.h265_model.specs.declared.moves.MoveLeaf.{MoveLeaf}
 use Rattle.h265_model.specs.declared.moves.MoveKind.{MoveKind}
 use Rattle.h265_model.specs.declared.moves.MoveKind.TheVariants as moves
-use Rattle.h265_model.specs.Plain.{Size, ctus, context_bin, bypass_bin, terminate_bin, ctu_x, ctu_y, joined}
+use Rattle.h265_model.specs.Plain.{Size, ctus, context_bin, bypass_bin, terminate_bin, ctu_x, ctu_y}
 use Rattle.h265_model.specs.Code.{Plain, Filled, GoesOn, IsWellFormed}
 use Rattle.h265_model.specs.Predict.{is_inside}
 use Rattle.h265_model.specs.Binarise.{eg, bypass_bins}
 use Rattle.h265_model.specs.Residual.{IsSide, eight, is_negative}
-use Rattle.h265_model.specs.Tree.{Source, IsSource, split_context, skip_context, is_whole, is_last}
+use Rattle.h265_model.specs.Tree.{Source, IsSource, split_context, is_whole, is_last}
 use Rattle.h265_model.specs.Motion.{Moving, leaves, leaf_as_coded, predictors, predictor, difference, greater1_of, size_items, part_items, difference_items, second_is_nearer, move_items}
 use Rattle.h265_model.specs.MotionTree.{ends_row}
-use Rattle.h265_model.specs.Walks.{UnitItems, UnitWalk, then_walk, walk_and, quarters_of, nothing_of, one_of, is_next_leaf, walk_of, ctu_items_of, coded_first, ctu_with_end, ctus_items_of, row_items_of, segment_items_of, moved_unit, unit_of_kind, move_unit}
+use Rattle.h265_model.specs.Walks.{UnitWalk, then_walk, walk_and, quarters_of, nothing_of, one_of, is_next_leaf, walk_of, ctu_items_of, coded_first, ctu_with_end, ctus_items_of, row_items_of, segment_items_of, moved_unit, unit_of_kind, move_unit}
 use Rattle.h265_model.proofs.ListParts.{all_append}
 use Rattle.h265_laws.proofs.FormLaw.{AreFine, fine_append, fine_bypass, Continues, continues_none, continues_append, continues_fine}
 use Rattle.h265_laws.proofs.RowForm.{skip_small, split_small, unit_continues}

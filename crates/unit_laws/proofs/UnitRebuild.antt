@@ -1,6 +1,5 @@
 -- What was read of a picture's units rebuilds the picture, where blocks may be copied from other places.
-use Rattle.std.proofs.Common.{◌≡◌, refl, sym, ◌∙◌, ap, subst, ℕ, zero, suc, ◌+◌, ◌-◌, ◌*◌, ◌^◌, ◌<◌, ◌≤◌, List, [], ◌∷◌, ◌++◌, Bool, true, false, cond, ◌||◌, ⊎_elim, length, get_or, append_assoc, append-nil, arith}
-use Rattle.std.specs.List.{AllByRecursion}
+use Rattle.std.proofs.Common.{◌≡◌, refl, sym, ◌∙◌, ap, subst, ℕ, ◌+◌, ◌-◌, ◌*◌, ◌<◌, List, [], ◌∷◌, ◌++◌, Bool, true, false, cond, ◌||◌, ⊎_elim, get_or, append_assoc, append-nil, arith}
 use Rattle.std.proofs.lemmas.Bool.{and_parts, or_cases, ltb-true}
 use Rattle.std.proofs.lemmas.List.Folds.{list_any-append}
 use Rattle.h265_model.specs.declared.leaf.Leaf.{Leaf}
@@ -9,17 +8,17 @@ use Rattle.h265_model.specs.declared.leaf.Kind.TheVariants.{Skip, Pcm, Intra}
 use Rattle.h265_model.specs.declared.moves.MoveLeaf.{MoveLeaf}
 use Rattle.h265_model.specs.declared.moves.MoveKind.{MoveKind}
 use Rattle.h265_model.specs.declared.moves.MoveKind.TheVariants as moves
-use Rattle.h265_model.specs.Plain.{Size, Picture, coded, ctus, joined, leaf_with, IsPicture}
+use Rattle.h265_model.specs.Plain.{Size, Picture, coded, joined, leaf_with, IsPicture}
 use Rattle.h265_model.specs.Predict.{is_inside, is_available}
-use Rattle.h265_model.specs.Raster.{plane, planes, blank}
+use Rattle.h265_model.specs.Raster.{plane, blank}
 use Rattle.h265_model.specs.Tree.{source_of, covers, leaf_side, samples_in, content_of}
 use Rattle.h265_model.specs.Rebuild as Old
 use Rattle.h265_model.specs.Rebuild.{with_block}
-use Rattle.h265_model.specs.Motion.{Moving, leaf_as_coded, kind_as_coded, as_coded, merge}
+use Rattle.h265_model.specs.Motion.{Moving, leaf_as_coded, kind_as_coded, as_coded}
 use Rattle.h265_model.specs.MotionTree.{ReadUnit, kind_of}
 use Rattle.h265_model.specs.MotionRebuild.{block_of, with_unit, with_units, rebuild}
 use Rattle.h265_model.proofs.Squares.{same_places}
-use Rattle.h265_laws.proofs.Coverage.{is_covered, Covers, IsPlaced, ArePlaced, inside_from}
+use Rattle.h265_laws.proofs.Coverage.{is_covered, IsPlaced, ArePlaced, inside_from}
 use Rattle.h265_laws.proofs.RebuildLaw.{Agree, block_back, at_samples, last_order}
 use Rattle.unit_laws.specs.Laws.{IsCopied, AreCopied, unit_content, reads_after, EachUnitPictureIsRebuilt}
 use Rattle.unit_laws.proofs.UnitCover.{leaves_from, units_cover}

@@ -1,14 +1,13 @@
 -- A row of coding tree units that was written where blocks may move is read, in a slice and as a segment.
-use Rattle.std.proofs.Common.{◌≡◌, refl, sym, ◌∙◌, ap, subst, ℕ, zero, suc, ◌+◌, ◌*◌, ◌<◌, ◌≤◌, List, [], ◌∷◌, ◌++◌, Bool, true, false, cond, take, map, get_or, append_assoc, append-nil, arith, add-zero}
+use Rattle.std.proofs.Common.{◌≡◌, refl, sym, ◌∙◌, ap, subst, ℕ, zero, suc, ◌+◌, ◌*◌, ◌≤◌, List, [], ◌∷◌, ◌++◌, Bool, true, false, cond, take, map, get_or, append_assoc, append-nil, arith, add-zero}
 use Rattle.std.specs.Prelude.{Option, Some, None, ◌==◌, nat_le}
 use Rattle.std.specs.List.{flat_map, range_with_len}
 use Rattle.std.proofs.lemmas.Bool.{leb-true}
-use Rattle.std.proofs.lemmas.Grind.{flat_map-append}
 use Rattle.h265_model.specs.declared.Item.{Item}
 use Rattle.h265_model.specs.declared.Place.TheVariants.{Terminate}
 use Rattle.h265_model.specs.declared.leaf.SliceKind.{SliceKind}
 use Rattle.h265_model.specs.declared.moves.MoveLeaf.{MoveLeaf}
-use Rattle.h265_model.specs.Plain.{Size, ctus, below, terminate_bin, joined}
+use Rattle.h265_model.specs.Plain.{Size, ctus, terminate_bin, joined}
 use Rattle.h265_model.specs.Bits.{bits, ◌>>=◌ as and_then}
 use Rattle.h265_model.specs.Engine.{Engine, start, is_done, Reader, ◌>>=◌, give, Reads, ReadsWith}
 use Rattle.h265_model.specs.Contexts.{row_start, start as first_contexts, AreContexts}
@@ -16,7 +15,7 @@ use Rattle.h265_model.specs.Code.{code, contexts_after, IsWellFormed}
 use Rattle.h265_model.specs.Tree.{Source, IsSource, expect, contexts_read, is_last}
 use Rattle.h265_model.specs.Motion.{Moving, coded_after}
 use Rattle.h265_model.specs.MotionTree.{ReadUnit, ReadCtu, units_of, units_after, moving_of, ctu_read, ctus_read, ends_row}
-use Rattle.h265_model.specs.MotionSlice.{subset_end, slice_row_read, segment_row_read, handed_on, row_of_bytes}
+use Rattle.h265_model.specs.MotionSlice.{slice_row_read, segment_row_read, handed_on, row_of_bytes}
 use Rattle.h265_model.specs.Walks.{UnitItems, move_unit, ctu_items_of, coded_first, ctu_with_end, ctus_items_of, row_items_of, segment_items_of, contexts_of}
 use Rattle.h265_laws.specs.Laws.{IsReadBack}
 use Rattle.h265_laws.proofs.Parts.{law, start_contexts}
@@ -38,7 +37,7 @@ joined_more (l ∷ units) (suc n) = ap (λ (r : List MoveLeaf). l ++ r) (joined_
 pub first_more : (units : List (List MoveLeaf)) (n : ℕ) → coded_first units (suc n) ≡ coded_after (coded_first units n) (get_or units n [])
 first_more units n = ap (coded_after []) (joined_more units n) ∙ coded-append [] (joined (take n units)) (get_or units n [])
 
-pub first_fit : (kind : SliceKind) (size : Size) (units : List (List MoveLeaf)) (total n : ℕ) → n ≤ total → AreLawfulUnits kind size units total → AreFit (coded_first units n)
+first_fit : (kind : SliceKind) (size : Size) (units : List (List MoveLeaf)) (total n : ℕ) → n ≤ total → AreLawfulUnits kind size units total → AreFit (coded_first units n)
 first_fit kind size units total zero h are = record { modes = tt; short = tt }
 first_fit kind size units total (suc n) h are =
     subst AreFit (sym (first_more units n)) (fit_all kind size (coded_first units n) (get_or units n []) (are.stand n (omega arith)) (first_fit kind size units total n (omega arith) are))
@@ -50,7 +49,7 @@ abbrev pub items_from : UnitItems → Size → (ℕ → Bool) → List (List Mov
 items_from unit size ends units ctu zero = []
 items_from unit size ends units ctu (suc n) = ctu_with_end unit size ends units ctu ++ items_from unit size ends units (suc ctu) n
 
-pub in_order : (unit : UnitItems) (size : Size) (ends : ℕ → Bool) (units : List (List MoveLeaf)) (base n first : ℕ)
+in_order : (unit : UnitItems) (size : Size) (ends : ℕ → Bool) (units : List (List MoveLeaf)) (base n first : ℕ)
     → flat_map (λ i. ctu_with_end unit size ends units (base + i)) (range_with_len first n) ≡ items_from unit size ends units (base + first) n
 in_order unit size ends units base zero first = refl
 in_order unit size ends units base (suc n) first =
@@ -198,7 +197,7 @@ read_first source units n = reads_after source [] (joined (take n units))
 pub coded_is : (source : Source) (units : List (List MoveLeaf)) (n : ℕ) → map moving_of (read_first source units n) ≡ coded_first units n
 coded_is source units n = after_reads source [] (joined (take n units))
 
-pub values_read : (kind : SliceKind) (size : Size) (source : Source) (units : List (List MoveLeaf)) (ctu n : ℕ) (c : List ℕ)
+values_read : (kind : SliceKind) (size : Size) (source : Source) (units : List (List MoveLeaf)) (ctu n : ℕ) (c : List ℕ)
     → read_first source units ctu ++ units_of (units_from kind size source units ctu n c) ≡ read_first source units (ctu + n)
 values_read kind size source units ctu zero c = append-nil (read_first source units ctu) ∙ (let e : ctu ≡ ctu + 0 = omega arith in ap (read_first source units) e)
 values_read kind size source units ctu (suc n) c =

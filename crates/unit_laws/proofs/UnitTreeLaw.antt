@@ -36,7 +36,7 @@ reads-append source before [] b = refl
 reads-append source before (u ∷ a) b =
     ap (λ (l : List ReadUnit). record { x = u.x; y = u.y; log2 = u.log2; content = unit_content source before u u.kind } ∷ l) (reads-append source (before ++ as_coded before u ∷ []) a b)
 
-pub moving_back : (source : Source) (before : List Moving) (u : MoveLeaf) (k : MoveKind)
+moving_back : (source : Source) (before : List Moving) (u : MoveLeaf) (k : MoveKind)
     → moving_of (record { x = u.x; y = u.y; log2 = u.log2; content = unit_content source before u k }) ≡ as_coded before (record { x = u.x; y = u.y; log2 = u.log2; kind = k })
 moving_back source before u moves.Skip = refl
 moving_back source before u (moves.Move v) = refl
@@ -59,7 +59,7 @@ pub leaves-append : (a b : List Moving) → leaves (a ++ b) ≡ leaves a ++ leav
 leaves-append [] b = refl
 leaves-append (u ∷ a) b = ap (λ (l : List Leaf). u.leaf ∷ l) (leaves-append a b)
 
-pub fit_one : (kind : SliceKind) (size : Size) (before : List Moving) (u : MoveLeaf) → IsShort (merge before u.x u.y u.log2) → CanStand kind size before u.x u.y u.log2 u.kind → AreFit before → AreFit (before ++ as_coded before u ∷ [])
+fit_one : (kind : SliceKind) (size : Size) (before : List Moving) (u : MoveLeaf) → IsShort (merge before u.x u.y u.log2) → CanStand kind size before u.x u.y u.log2 u.kind → AreFit before → AreFit (before ++ as_coded before u ∷ [])
 fit_one kind size before u hm c f = record {
   modes = subst AreModes (sym (leaves-append before (as_coded before u ∷ []))) (all_append (λ leaf. IsMode leaf.kind) (leaves before) (leaf_as_coded u ∷ []) f.modes (mode kind u.kind c, tt));
   short = all_append (λ unit. IfSome unit.vector IsShort) before (as_coded before u ∷ []) f.short (vector kind u.kind c, tt);
@@ -85,11 +85,11 @@ fit_all kind size before [] c f = f
 fit_all kind size before (u ∷ us) c f =
     fit_all kind size (before ++ as_coded before u ∷ []) us c.1 (fit_one kind size before u (merge_short before u.x u.y u.log2 f.short) c.0 f)
 
-pub stand-front : (kind : SliceKind) (size : Size) (before : List Moving) (a b : List MoveLeaf) → CanStandAll kind size before (a ++ b) → CanStandAll kind size before a
+stand-front : (kind : SliceKind) (size : Size) (before : List Moving) (a b : List MoveLeaf) → CanStandAll kind size before (a ++ b) → CanStandAll kind size before a
 stand-front kind size before [] b c = tt
 stand-front kind size before (u ∷ a) b c = (c.0, stand-front kind size (before ++ as_coded before u ∷ []) a b c.1)
 
-pub stand-back : (kind : SliceKind) (size : Size) (before : List Moving) (a b : List MoveLeaf) → CanStandAll kind size before (a ++ b) → CanStandAll kind size (coded_after before a) b
+stand-back : (kind : SliceKind) (size : Size) (before : List Moving) (a b : List MoveLeaf) → CanStandAll kind size before (a ++ b) → CanStandAll kind size (coded_after before a) b
 stand-back kind size before [] b c = c
 stand-back kind size before (u ∷ a) b c = stand-back kind size (before ++ as_coded before u ∷ []) a b c.1
 

@@ -1,14 +1,15 @@
 -- Laws over the definitions of coding units where blocks may move: what is written is read back.
-use Rattle.std.specs.Prelude.{◌≡◌, true, false, nat_abs, ◌≤◌, ◌<◌, ℕ, zero, suc, ◌+◌, ◌*◌, ◌^◌, ◌⊎◌, MatchBool, List, [], ◌∷◌, ◌++◌, map, IfSome, get_or, length}
-use Rattle.std.specs.List.{AllByRecursion}
+use Rattle.std.specs.Prelude.{◌≡◌, true, false, nat_abs, ◌≤◌, ◌<◌, ◌-◌, ℕ, zero, suc, ◌+◌, ◌*◌, ◌^◌, ◌⊎◌, MatchBool, List, [], ◌∷◌, ◌++◌, map, IfSome, get_or, length, take, slice_index}
+use Rattle.std.specs.List.{AllByRecursion, flat_map}
+use Rattle.h265_model.specs.declared.Item.{Item}
 use Rattle.h265_model.specs.declared.Place.TheVariants.{Context}
 use Rattle.h265_model.specs.declared.moves.Vector.{Vector}
-use Rattle.h265_model.specs.Plain.{Size, Picture, IsPicture, ctus, joined, ctu_x, ctu_y}
+use Rattle.h265_model.specs.Plain.{Size, Picture, IsPicture, ctus, below, terminate_bin, joined, ctu_x, ctu_y}
 use Rattle.h265_model.specs.Engine.{Reads, ReadsWith, ◌>>=◌, give}
-use Rattle.h265_model.specs.Tree.{expect, Source, IsSource, source_of, samples_in, AreModes, is_whole}
+use Rattle.h265_model.specs.Tree.{expect, Source, IsSource, source_of, samples_in, AreModes, is_whole, ctu_items}
 use Rattle.h265_model.specs.Predict.{is_inside}
 use Rattle.h265_model.specs.Residual.{IsSide}
-use Rattle.h265_model.specs.MotionTree.{Content, Copied, Moved, Samples, Levels, ReadUnit, ReadCtu, coding_unit_read, ctu_read}
+use Rattle.h265_model.specs.MotionTree.{Content, Copied, Moved, Samples, Levels, ReadUnit, ReadCtu, coding_unit_read, ctu_read, ends_row}
 use Rattle.h265_model.specs.Motion.{Moving, leaves, leaf_as_coded, as_coded, merge, has_source, move_items, vector_read, still}
 use Rattle.h265_model.specs.declared.moves.MoveLeaf.{MoveLeaf}
 use Rattle.h265_model.specs.declared.moves.MoveKind.{MoveKind}
@@ -16,12 +17,12 @@ use Rattle.h265_model.specs.declared.moves.MoveKind.TheVariants as moves
 use Rattle.h265_model.specs.declared.leaf.SliceKind.TheVariants.{I, P}
 use Rattle.h265_model.specs.declared.leaf.SliceKind.{SliceKind}
 use Rattle.h265_model.specs.declared.leaf.Leaf.{Leaf}
-use Rattle.h265_model.specs.Slice.{row_code}
-use Rattle.h265_model.specs.Code.{contexts_after, IsWellFormed}
+use Rattle.h265_model.specs.Slice.{contexts_at, row_code}
+use Rattle.h265_model.specs.Code.{code, contexts_after, IsWellFormed}
 use Rattle.h265_model.specs.Raster.{planes}
 use Rattle.h265_model.specs.MotionRebuild.{moved_samples, rebuild}
 use Rattle.h265_model.specs.MotionSlice.{slice_row_read, segment_row_read}
-use Rattle.h265_model.specs.Walks.{UnitItems, ctu_items_of, coded_first, row_items_of, segment_items_of, still_unit, move_unit, code_of}
+use Rattle.h265_model.specs.Walks.{UnitItems, ctu_items_of, coded_first, row_items_of, segment_items_of, still_unit, move_unit, code_of, segment_code_of}
 
 -- ---- vectors
 
@@ -129,6 +130,22 @@ AreStill unit =
 abbrev pub EachRowIsStill : Type 0
 EachRowIsStill = AreStill still_unit × AreStill move_unit
 
+-- a row as a segment of its own, of leaves: each coding tree unit with end_of_slice_segment_flag, which is 1 at the row's last
+abbrev pub segment_of_leaves : SliceKind → Size → Source → List (List Leaf) → ℕ → List Item
+segment_of_leaves kind size source leaves row =
+    flat_map
+    (λ i.
+    let ctu : ℕ = row * ctus size.w + i in
+    ctu_items kind size source (joined (take ctu leaves)) (get_or leaves ctu []) ctu ++ terminate_bin (ends_row size ctu) ∷ [])
+    (below (ctus size.w))
+
+-- the segment of a row of leaves, in streams without moves and in streams with moves, has the contexts that the row has in a slice (9.3.1)
+abbrev pub EachSegmentIsStill : Type 0
+EachSegmentIsStill =
+    (kind : SliceKind) (size : Size) (source : Source) (leaves : List (List Leaf)) (row : ℕ) →
+    (segment_code_of kind (still_unit kind source) size (map (map still) leaves) row ≡ code (segment_of_leaves kind size source leaves row) (contexts_at kind size source leaves row))
+    × (segment_code_of kind (move_unit kind source) size (map (map still) leaves) row ≡ code (segment_of_leaves kind size source leaves row) (contexts_at kind size source leaves row))
+
 -- what the units of a picture have to be: the trees of its coding tree units, each unit of which can stand after those before it
 pub record AreLawfulUnits (kind : SliceKind) (size : Size) (units : List (List MoveLeaf)) (total : ℕ) : Type 0 where
   pub tree : (ctu : ℕ) → ctu < total → IsUnitTree size 2 (ctu_x size ctu) (ctu_y size ctu) (get_or units ctu [])
@@ -157,6 +174,17 @@ EachUnitRowIsWellFormed =
     (kind : SliceKind) (size : Size) (source : Source) (units : List (List MoveLeaf)) (row : ℕ) → IsSource source → length units ≡ ctus size.w * ctus size.h →
     AreLawfulUnits kind size units (ctus size.w * ctus size.h) → 0 < ctus size.w → row < ctus size.h →
     IsWellFormed (row_items_of (move_unit kind source) size units row) × IsWellFormed (segment_items_of (move_unit kind source) size units row)
+
+-- bytes that end in one that isn't 0, and that an entry point can count (7.4.7.1)
+abbrev pub IsSubstream : List ℕ → Type 0
+IsSubstream list = (0 < slice_index list (length list - 1)) × (length list < 2 ^ 31)
+
+-- the bytes of a row where blocks may move are such, in a slice and as a segment
+abbrev pub EachUnitRowIsSubstream : Type 0
+EachUnitRowIsSubstream =
+    (kind : SliceKind) (size : Size) (source : Source) (units : List (List MoveLeaf)) (row : ℕ) → IsSource source → length units ≡ ctus size.w * ctus size.h →
+    AreLawfulUnits kind size units (ctus size.w * ctus size.h) → 0 < ctus size.w → ctus size.w ≤ 128 → row < ctus size.h →
+    IsSubstream (code_of kind (move_unit kind source) size units row) × IsSubstream (segment_code_of kind (move_unit kind source) size units row)
 
 -- ---- pictures
 

@@ -1,6 +1,6 @@
 -- How long codes can get where blocks may move: entry points fit their fields.
-use Rattle.std.proofs.Common.{◌≡◌, refl, sym, ◌∙◌, ap, ℕ, zero, suc, ◌+◌, ◌*◌, ◌^◌, ◌<◌, ◌≤◌, List, [], ◌∷◌, ◌++◌, Bool, true, false, cond, not, length, take, get_or, length-append, arith}
-use Rattle.std.specs.Prelude.{nat_lt, nat_abs, ◌==◌, ℤ}
+use Rattle.std.proofs.Common.{ℕ, zero, suc, ◌+◌, ◌*◌, ◌^◌, ◌<◌, ◌≤◌, List, [], ◌∷◌, ◌++◌, Bool, true, false, cond, not, length, get_or, length-append, arith}
+use Rattle.std.specs.Prelude.{nat_lt, nat_abs, ◌==◌}
 use Rattle.std.specs.List.{flat_map, range_with_len}
 use Rattle.h265_model.specs.declared.Item.{Item}
 use Rattle.h265_model.specs.declared.leaf.SliceKind.{SliceKind}
@@ -16,9 +16,13 @@ use Rattle.h265_model.specs.Binarise.{eg, bypass_bins}
 use Rattle.h265_model.specs.Residual.{IsSide, is_negative}
 use Rattle.h265_model.specs.Tree.{Source, IsSource, split_context, skip_context, is_whole, is_last}
 use Rattle.h265_model.specs.Motion.{Moving, leaves, leaf_as_coded, predictors, predictor, difference, greater1_of, size_items, part_items, difference_items, second_is_nearer, move_items}
-use Rattle.h265_model.specs.Walks.{UnitWalk, then_walk, walk_and, quarters_of, nothing_of, one_of, is_next_leaf, walk_of, ctu_items_of, coded_first, ctu_with_end, ctus_items_of, row_items_of, moved_unit, unit_of_kind, move_unit}
+use Rattle.h265_model.specs.Walks.{UnitWalk, then_walk, walk_and, quarters_of, nothing_of, one_of, is_next_leaf, walk_of, ctu_items_of, coded_first, ctu_with_end, ctus_items_of, row_items_of, segment_items_of, contexts_of, moved_unit, unit_of_kind, move_unit}
 use Rattle.h265_laws.proofs.LengthLaw.{length_bypass, length_eg, length_unit, code_length, escape_length}
-use Rattle.unit_laws.proofs.UnitForm.{UnitsHaveSides, AllUnitsHaveSides}
+use Rattle.h265_laws.proofs.EndsLaw.{code_ends}
+use Rattle.h265_laws.proofs.SubstreamLaw.{ends_in}
+use Rattle.unit_laws.specs.Laws.{EachUnitRowIsSubstream}
+use Rattle.unit_laws.proofs.UnitForm.{UnitsHaveSides, AllUnitsHaveSides, lawful_sides, slice_form, segment_form}
+use Rattle.h265_model.specs.MotionTree.{ends_row}
 
 -- ---- units
 
@@ -134,22 +138,22 @@ module _ (kind : SliceKind) (size : Size) (source : Source) (is : IsSource sourc
 
   -- ---- rows
 
-  length_ctu : (units : List (List MoveLeaf)) (ctu : ℕ) → AllUnitsHaveSides units → length (ctu_with_end (move_unit kind source) size (is_last size) units ctu) ≤ 2900000
+  length_ctu : (ends : ℕ → Bool) (units : List (List MoveLeaf)) (ctu : ℕ) → AllUnitsHaveSides units → length (ctu_with_end (move_unit kind source) size ends units ctu) ≤ 2900000
   unfolding ctu_items_of most_items
-  length_ctu units ctu sides =
+  length_ctu ends units ctu sides =
       let list : List Item = ctu_items_of (move_unit kind source) size (coded_first units ctu) (get_or units ctu []) ctu in
       let short : length list ≤ 2856005 = (tree_short 2 (ctu_x size ctu) (ctu_y size ctu) (coded_first units ctu) (get_or units ctu []) (sides ctu)).short in
-      omega (arith, length-append list (terminate_bin (is_last size ctu) ∷ []))
+      omega (arith, length-append list (terminate_bin (ends ctu) ∷ []))
 
-  length_ctus : (units : List (List MoveLeaf)) (base first n : ℕ) → AllUnitsHaveSides units
-      → length (flat_map (λ i. ctu_with_end (move_unit kind source) size (is_last size) units (base + i)) (range_with_len first n)) ≤ n * 2900000
-  length_ctus units base first zero sides = omega arith
-  length_ctus units base first (suc n) sides =
+  length_ctus : (ends : ℕ → Bool) (units : List (List MoveLeaf)) (base first n : ℕ) → AllUnitsHaveSides units
+      → length (flat_map (λ i. ctu_with_end (move_unit kind source) size ends units (base + i)) (range_with_len first n)) ≤ n * 2900000
+  length_ctus ends units base first zero sides = omega arith
+  length_ctus ends units base first (suc n) sides =
       omega (
         arith,
-        length-append (ctu_with_end (move_unit kind source) size (is_last size) units (base + first)) (flat_map (λ i. ctu_with_end (move_unit kind source) size (is_last size) units (base + i)) (range_with_len (first + 1) n)),
-        length_ctu units (base + first) sides,
-        length_ctus units base (first + 1) n sides,
+        length-append (ctu_with_end (move_unit kind source) size ends units (base + first)) (flat_map (λ i. ctu_with_end (move_unit kind source) size ends units (base + i)) (range_with_len (first + 1) n)),
+        length_ctu ends units (base + first) sides,
+        length_ctus ends units base (first + 1) n sides,
       )
 
   length_row : (units : List (List MoveLeaf)) (row : ℕ) → AllUnitsHaveSides units → ctus size.w ≤ 128 → length (row_items_of (move_unit kind source) size units row) ≤ 371200001
@@ -160,14 +164,30 @@ module _ (kind : SliceKind) (size : Size) (source : Source) (is : IsSource sourc
       list = ctus_items_of (move_unit kind source) size (is_last size) units row (ctus size.w)
 
       many : length list ≤ ctus size.w * 2900000
-      many = length_ctus units (row * ctus size.w) 0 (ctus size.w) sides
+      many = length_ctus (is_last size) units (row * ctus size.w) 0 (ctus size.w) sides
 
       go : (b : Bool) → length (list ++ cond b [] (terminate_bin true ∷ [])) ≤ 371200001
       go true = omega (arith, length-append list [], many)
       go false = omega (arith, length-append list (terminate_bin true ∷ []), many)
+
+  length_segment : (units : List (List MoveLeaf)) (row : ℕ) → AllUnitsHaveSides units → ctus size.w ≤ 128 → length (segment_items_of (move_unit kind source) size units row) ≤ 371200001
+  unfolding segment_items_of
+  length_segment units row sides few =
+      let many : length (ctus_items_of (move_unit kind source) size (ends_row size) units row (ctus size.w)) ≤ ctus size.w * 2900000 = length_ctus (ends_row size) units (row * ctus size.w) 0 (ctus size.w) sides in
+      omega arith
 
   -- what stands in an entry point
   pub entry_fits : (units : List (List MoveLeaf)) (row : ℕ) (contexts : List ℕ) → AllUnitsHaveSides units → ctus size.w ≤ 128
       → length (escape (code (row_items_of (move_unit kind source) size units row) contexts)) < 2 ^ 32
   entry_fits units row contexts sides few =
       omega (arith, escape_length 255 255 (code (row_items_of (move_unit kind source) size units row) contexts), code_length (row_items_of (move_unit kind source) size units row) contexts, length_row units row sides few)
+
+pub rows_are_substreams : EachUnitRowIsSubstream
+rows_are_substreams kind size source units row is many are some narrow few =
+    let sides : AllUnitsHaveSides units = lawful_sides kind size units (ctus size.w * ctus size.h) many are in
+    let contexts : List ℕ = contexts_of kind (move_unit kind source) size units row in
+    let slice : List Item = row_items_of (move_unit kind source) size units row in
+    let segment : List Item = segment_items_of (move_unit kind source) size units row in (
+      (ends_in _ (code_ends slice contexts (slice_form kind size source is units row sides some few)), omega (arith, code_length slice contexts, length_row kind size source is units row sides narrow)),
+      (ends_in _ (code_ends segment contexts (segment_form kind size source is units row sides some)), omega (arith, code_length segment contexts, length_segment kind size source is units row sides narrow)),
+    )
