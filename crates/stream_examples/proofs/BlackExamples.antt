@@ -1,8 +1,6 @@
 -- A black picture with samples alone, computed.
-use Rattle.std.specs.Prelude.{◌≡◌, ℕ, List, [], ◌∷◌, ◌++◌, replicate, flat_map, Ok, Err, refl}
-use Rattle.h265_model.specs.declared.line.Rgb.{Rgb}
+use Rattle.std.specs.Prelude.{◌≡◌, ℕ, [], ◌∷◌, ◌++◌, replicate, flat_map, Ok, Err, refl}
 use Rattle.h265_model.specs.declared.extra.Extra.TheVariants.{Plain, Hash}
-use Rattle.h265_model.specs.Plain.{Size}
 use Rattle.h265_model.specs.Raster.{Raster}
 use Rattle.h265_model.specs.Words.{Settings}
 use Rattle.h265_model.specs.NalUnits.{escape}
