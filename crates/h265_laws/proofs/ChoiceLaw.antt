@@ -49,7 +49,7 @@ all_from : (list : List ℕ) → list_all (λ m. nat_lt m 35) list ≡ true → 
 all_from [] h = tt
 all_from (m ∷ list) h = let p = and_parts (nat_lt m 35) (list_all (λ k. nat_lt k 35) list) h in (ltb-true m 35 p.0, all_from list p.1)
 
-modes_are : (effort : ℕ) → AllByRecursion (λ m. m < 35) (modes_of effort)
+pub modes_are : (effort : ℕ) → AllByRecursion (λ m. m < 35) (modes_of effort)
 unfolding modes_of
 modes_are zero = tt
 modes_are (suc zero) = all_from (modes_of 1) refl
@@ -179,7 +179,7 @@ choice_is_fair prev now size effort ctu = (plan_is prev now size effort 2 (ctu_x
 
 -- ---- copies
 
-same_is : (xs ys : List ℕ) → same xs ys ≡ true → xs ≡ ys
+pub same_is : (xs ys : List ℕ) → same xs ys ≡ true → xs ≡ ys
 same_is [] [] h = refl
 same_is [] (y ∷ ys) h = absurd (cc)
 same_is (x ∷ xs) [] h = absurd (cc)

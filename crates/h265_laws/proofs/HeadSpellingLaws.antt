@@ -100,7 +100,7 @@ front_length : (a b l r : ℕ) → l ≡ a + b → r ≡ 8 * b → l - r / 8 ≡
 front_length a b l r e h = omega arith
 
 -- bytes whose bits are a table's with its end and more begin with the table's bytes
-front_is : (rbsp : List ℕ) (own rest : List Bool) → AreBytes rbsp → bits rbsp ≡ aligned_bits own ++ rest → take (length rbsp - length rest / 8) rbsp ≡ bytes (aligned_bits own)
+pub front_is : (rbsp : List ℕ) (own rest : List Bool) → AreBytes rbsp → bits rbsp ≡ aligned_bits own ++ rest → take (length rbsp - length rest / 8) rbsp ≡ bytes (aligned_bits own)
 front_is rbsp own rest are e =
     let table = aligned_bits own in
     let whole = aligned_whole own in
@@ -119,7 +119,7 @@ front_is rbsp own rest are e =
 one_more : (n rows : ℕ) → 0 < rows → n ≡ rows - 1 → n + 1 ≡ rows
 one_more n rows some h = omega arith
 
-whole_sum : (a b c : ℕ) → c ≡ a + b → c % 8 ≡ 0 → (a + b) % 8 ≡ 0
+pub whole_sum : (a b c : ℕ) → c ≡ a + b → c % 8 ≡ 0 → (a + b) % 8 ≡ 0
 whole_sum a b c e h = omega arith
 
 pub read_head-is : EachHeadIsSpelled

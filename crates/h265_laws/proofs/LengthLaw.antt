@@ -92,14 +92,14 @@ escape_length p q (x ∷ list) = go (p == 0 && q == 0 && nat_le x 3) (escape_len
 
 -- ---- items of levels
 
-length_bypass : (bits : List Bool) → length (bypass_bins bits) ≡ length bits
+pub length_bypass : (bits : List Bool) → length (bypass_bins bits) ≡ length bits
 length_bypass bits = length-map bits bypass_bin
 
 length_contexts : (number : ℕ → ℕ) (i : ℕ) (bits : List Bool) → length (context_bins number i bits) ≡ length bits
 length_contexts number i [] = refl
 length_contexts number i (b ∷ bits) = ap suc (length_contexts number (suc i) bits)
 
-length_eg : (ones k v : ℕ) → length (eg_within ones k v) ≤ 2 * ones + k + 1
+pub length_eg : (ones k v : ℕ) → length (eg_within ones k v) ≤ 2 * ones + k + 1
 length_eg zero k v = omega (arith, length-u k v)
 length_eg (suc ones) k v = go (nat_le (2 ^ k) v) (length_eg ones (suc k) (v - 2 ^ k))
   where
@@ -404,7 +404,7 @@ length_content source before leaf (Intra mode) is side =
         → length (terminate_bin false ∷ (m ++ (w ∷ x ∷ y ∷ z ∷ (a ++ (b ++ c))))) ≤ 135100
     five m a b c w x y z hm ha hb hc = omega (arith, length-append m (w ∷ x ∷ y ∷ z ∷ (a ++ (b ++ c))), length-append a (b ++ c), length-append b c)
 
-length_unit : (kind : SliceKind) (source : Source) (before : List Leaf) (leaf : Leaf) → IsSource source → IsSide leaf.log2 → length (coding_unit_items kind source before leaf) ≤ 136000
+pub length_unit : (kind : SliceKind) (source : Source) (before : List Leaf) (leaf : Leaf) → IsSource source → IsSide leaf.log2 → length (coding_unit_items kind source before leaf) ≤ 136000
 unfolding coding_unit_items
 length_unit kind source before leaf is side = go kind (is_skipped leaf.kind) (leaf.log2 == 3)
   where

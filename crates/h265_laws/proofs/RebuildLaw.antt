@@ -83,7 +83,7 @@ third_of f (suc (suc zero)) d h = refl
 third_of f (suc (suc (suc n))) d h = absurd (omega arith)
 
 -- the block that is laid in is the picture's
-block_back : (size : Size) (prev now cur : Picture) (leaf : Leaf) (component : ℕ) → component < 3 → IsPicture now → IsCopy prev now leaf
+pub block_back : (size : Size) (prev now cur : Picture) (leaf : Leaf) (component : ℕ) → component < 3 → IsPicture now → IsCopy prev now leaf
     → ((qx qy : ℕ) → is_available size leaf.x leaf.y qx qy ≡ true → cur component qx qy ≡ now component qx qy)
     → block_of size prev cur leaf (content_of (source_of size now) leaf leaf.kind) component ≡ samples_in now leaf component
 unfolding block_of source_of
@@ -102,7 +102,7 @@ block_back size prev now cur leaf component small is copy near = go leaf.kind re
         ∙ sums_back p (samples_in now leaf component) (length_prediction size now mode component leaf.x leaf.y leaf.log2 ∙ sym (length_samples now leaf component)) (samples_are now leaf component is))
 
 -- a sample of the block
-at_samples : (now : Picture) (leaf : Leaf) (component x y : ℕ) → covers x y leaf ≡ true
+pub at_samples : (now : Picture) (leaf : Leaf) (component x y : ℕ) → covers x y leaf ≡ true
     → get_or (samples_in now leaf component) ((y - leaf.y) * leaf_side leaf + (x - leaf.x)) 0 ≡ now component x y
 at_samples now leaf component x y h =
     let w : IsWithin leaf.x leaf.y (leaf_side leaf) x y = covers_parts leaf x y h in
@@ -159,7 +159,7 @@ leaves_rebuilt size prev now cur before (leaf ∷ leaves) is copies placed agree
     subst (λ (l : List Leaf). Agree (with_leaves size prev next (reads_of (source_of size now) leaves)) now l) (append_assoc before (leaf ∷ []) leaves)
     (leaves_rebuilt size prev now next (before ++ leaf ∷ []) leaves is copies.1 placed.1 (one_rebuilt size prev now cur before leaf is copies.0 placed.0 agree))
 
-last_order : (size : Size) (x y : ℕ) → is_inside size x y ≡ true → coding_order size x y < ctus size.w * ctus size.h * 1024
+pub last_order : (size : Size) (x y : ℕ) → is_inside size x y ≡ true → coding_order size x y < ctus size.w * ctus size.h * 1024
 unfolding coding_order
 last_order size x y inside =
     let s : Splits (x % 32) (y % 32) = splits (x % 32) (y % 32) (omega arith) (omega arith) in

@@ -35,11 +35,11 @@ many_small test leaves x y =
     let b : digit (passes test (above leaves x y)) ≤ 1 = digit_small _ in
     omega arith
 
-skip_small : (leaves : List Leaf) (x y : ℕ) → skip_context leaves x y < 130
+pub skip_small : (leaves : List Leaf) (x y : ℕ) → skip_context leaves x y < 130
 unfolding skip_context
 skip_small leaves x y = let h : how_many (λ leaf. is_skipped leaf.kind) leaves x y ≤ 2 = many_small _ leaves x y in omega arith
 
-split_small : (leaves : List Leaf) (x y log2 : ℕ) → split_context leaves x y log2 < 130
+pub split_small : (leaves : List Leaf) (x y log2 : ℕ) → split_context leaves x y log2 < 130
 unfolding split_context
 split_small leaves x y log2 = let h : how_many (λ leaf. nat_lt leaf.log2 log2) leaves x y ≤ 2 = many_small _ leaves x y in omega arith
 
@@ -105,7 +105,7 @@ content_continues source before leaf (Intra mode) is side =
       ),
     )
 
-unit_continues : (kind : SliceKind) (source : Source) (before : List Leaf) (leaf : Leaf) → IsSource source → IsSide leaf.log2 → Continues (coding_unit_items kind source before leaf)
+pub unit_continues : (kind : SliceKind) (source : Source) (before : List Leaf) (leaf : Leaf) → IsSource source → IsSide leaf.log2 → Continues (coding_unit_items kind source before leaf)
 unfolding coding_unit_items
 unit_continues kind source before leaf is side =
     continues_append (context_bin true 0 ∷ in_P kind (context_bin (is_skipped leaf.kind) (skip_context before leaf.x leaf.y) ∷ [])) _ (continues_fine _ (omega arith, skip_flag kind)) (go (is_skipped leaf.kind))

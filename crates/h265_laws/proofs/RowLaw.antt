@@ -40,7 +40,7 @@ same_bit : (b : Bool) → beq b b ≡ true
 same_bit true = refl
 same_bit false = refl
 
-with_expect : {A : Type 0} (value : Bool) (read : Reader A) (list : List Item) (a : List ℕ → A) → ReadsWith read list a
+pub with_expect : {A : Type 0} (value : Bool) (read : Reader A) (list : List Item) (a : List ℕ → A) → ReadsWith read list a
     → ReadsWith (expect Terminate value read) (terminate_bin value ∷ list) a
 with_expect value read list a r = record {
   from = λ e left h.
@@ -51,14 +51,14 @@ with_expect value read list a r = record {
       ∙ (r.from d left h.2 ∙ ap (λ (c : List ℕ). Some (a c, left)) here));
 }
 
-with_as : {A : Type 0} (read : Reader A) (list list' : List Item) (a : List ℕ → A) → list ≡ list' → ReadsWith read list a → ReadsWith read list' a
+pub with_as : {A : Type 0} (read : Reader A) (list list' : List Item) (a : List ℕ → A) → list ≡ list' → ReadsWith read list a → ReadsWith read list' a
 with_as read list list' a same r = subst (λ (l : List Item). ReadsWith read l a) same r
 
-with_map : {A B : Type 0} (read : Reader A) (f : A → B) (list : List Item) (a : List ℕ → A) → ReadsWith read list a → ReadsWith (read >>= λ x. give (f x)) list (λ c. f (a c))
+pub with_map : {A B : Type 0} (read : Reader A) (f : A → B) (list : List Item) (a : List ℕ → A) → ReadsWith read list a → ReadsWith (read >>= λ x. give (f x)) list (λ c. f (a c))
 with_map read f list a r = record { from = λ e left h. ap (λ o. and_then o (λ found. Some (f found.0, found.1))) (r.from e left h) }
 
 -- contexts_read in front
-with_contexts : {A : Type 0} (f : List ℕ → Reader A) (list : List Item) (a : List ℕ → List ℕ → A) → ((c : List ℕ) → ReadsWith (f c) list (a c)) → ReadsWith (contexts_read >>= f) list (λ c. a c c)
+pub with_contexts : {A : Type 0} (f : List ℕ → Reader A) (list : List Item) (a : List ℕ → List ℕ → A) → ((c : List ℕ) → ReadsWith (f c) list (a c)) → ReadsWith (contexts_read >>= f) list (λ c. a c c)
 with_contexts f list a r = record { from = λ e left h. (r e.contexts).from e left h }
 
 -- ---- the coding tree units of a row

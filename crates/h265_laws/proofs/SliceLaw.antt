@@ -33,10 +33,10 @@ row_values kind size source leaves row = values_from kind size source leaves (ro
 
 -- ---- one row
 
-rows_fit : (row w h : ℕ) → row < h → row * w + w ≤ w * h
+pub rows_fit : (row w h : ℕ) → row < h → row * w + w ≤ w * h
 rows_fit row w h less = let a : row * w + w ≤ h * w = row_fits row w h w less (le_refl w) in omega arith
 
-done_at : (left : Engine) → aligned left ≡ Some [] → is_done left ≡ true
+pub done_at : (left : Engine) → aligned left ≡ Some [] → is_done left ≡ true
 unfolding is_done
 done_at left e = ap at_end e
 

@@ -46,13 +46,13 @@ use Rattle.h265_laws.proofs.CoverLaw.{joined_cover, sides_of}
 
 -- ---- a picture's parts
 
-abbrev picture_of : Settings → Raster → Picture
+abbrev pub picture_of : Settings → Raster → Picture
 picture_of settings raster = coded_picture settings.size raster
 
-abbrev leaves_of : Settings → Bool → Option Raster → Raster → List (List Leaf)
+abbrev pub leaves_of : Settings → Bool → Option Raster → Raster → List (List Leaf)
 leaves_of settings idr before raster = all_leaves settings (reference idr settings.size before) (picture_of settings raster)
 
-abbrev source_in : Settings → Raster → Source
+abbrev pub source_in : Settings → Raster → Source
 source_in settings raster = source_of settings.size (picture_of settings raster)
 
 abbrev rows_of : Settings → Bool → Option Raster → Raster → List (List ℕ)
@@ -67,14 +67,14 @@ unit_with settings idr poc before raster = record {
   rbsp = bytes (head_bits (head_of settings idr poc before raster)) ++ flat_map (λ r. r) (rows_of settings idr before raster);
 }
 
-lawful_of : (settings : Settings) (idr : Bool) (before : Option Raster) (raster : Raster) → AreLawfulTrees (slice_kind idr) settings.size (leaves_of settings idr before raster) (ctus settings.size.w * ctus settings.size.h)
+pub lawful_of : (settings : Settings) (idr : Bool) (before : Option Raster) (raster : Raster) → AreLawfulTrees (slice_kind idr) settings.size (leaves_of settings idr before raster) (ctus settings.size.w * ctus settings.size.h)
 lawful_of settings true before raster = lawful_alone (picture_of settings raster) settings.size settings.effort (ctus settings.size.w * ctus settings.size.h)
 lawful_of settings false before raster = lawful_after (reference false settings.size before) (picture_of settings raster) settings.size settings.effort (ctus settings.size.w * ctus settings.size.h)
 
-many_of : (settings : Settings) (idr : Bool) (before : Option Raster) (raster : Raster) → length (leaves_of settings idr before raster) ≡ ctus settings.size.w * ctus settings.size.h
+pub many_of : (settings : Settings) (idr : Bool) (before : Option Raster) (raster : Raster) → length (leaves_of settings idr before raster) ≡ ctus settings.size.w * ctus settings.size.h
 many_of settings idr before raster = length-map-range_with_len (choice (reference idr settings.size before) (picture_of settings raster) settings.size settings.effort) 0 (ctus settings.size.w * ctus settings.size.h)
 
-slice_of : (settings : Settings) (idr : Bool) (before : Option Raster) (raster : Raster) → IsFit settings.size → IsRaster settings.size raster
+pub slice_of : (settings : Settings) (idr : Bool) (before : Option Raster) (raster : Raster) → IsFit settings.size → IsRaster settings.size raster
     → IsSlice (slice_kind idr) settings.size (source_in settings raster) (leaves_of settings idr before raster)
 slice_of settings idr before raster fit is = record {
   wide = fit.wide;
@@ -85,7 +85,7 @@ slice_of settings idr before raster fit is = record {
 
 -- ---- rows end in a byte other than 0
 
-some_escaped : (list : List ℕ) → 0 < length list → 0 < length (escape list)
+pub some_escaped : (list : List ℕ) → 0 < length list → 0 < length (escape list)
 unfolding escape_after
 some_escaped [] some = some
 some_escaped (x ∷ list) some = go (255 == 0 && 255 == 0 && nat_le x 3)
@@ -112,7 +112,7 @@ module _ (kind : SliceKind) (size : Size) (source : Source) (leaves : List (List
 rows_are : (settings : Settings) (idr : Bool) (before : Option Raster) (raster : Raster) → IsFit settings.size → IsRaster settings.size raster → AllByRecursion Ends (rows_of settings idr before raster)
 rows_are settings idr before raster fit is = rows_ends (slice_kind idr) settings.size (source_in settings raster) (leaves_of settings idr before raster) (slice_of settings idr before raster fit is) 0 (ctus settings.size.h) (omega arith)
 
-length_but_last : {A : Type 0} (list : List A) (n : ℕ) → length list ≡ suc n → length (but_last list) + 1 ≡ length list
+pub length_but_last : {A : Type 0} (list : List A) (n : ℕ) → length list ≡ suc n → length (but_last list) + 1 ≡ length list
 length_but_last list n h = go list (length list - 1) (omega arith)
   where
     go : {A : Type 0} (l : List A) (k : ℕ) → length l ≡ suc k → length (take k l) + 1 ≡ length l
@@ -171,7 +171,7 @@ slice_is_read heads settings idr poc before raster previous fit is small zero_at
 order_mod : (k n : ℕ) → order_count (suc k) n ≡ n % suc k
 order_mod k n = cond-false (suc k == 0) n (n % suc k) (ne_eqb (suc k) 0 (λ e. omega arith))
 
-zero_order : (key n : ℕ) → is_idr key n ≡ true → order_count key n ≡ 0
+pub zero_order : (key n : ℕ) → is_idr key n ≡ true → order_count key n ≡ 0
 zero_order key n h = ⊎_elim (λ first. at_zero key n (eqb-true n 0 first)) (λ divides. let p = and_parts _ _ divides in at_key key n (ltb-true 0 key p.0) (eqb-true (n % key) 0 p.1)) (or_cases (n == 0) (nat_lt 0 key && n % key == 0) h)
   where
     at_zero : (key n : ℕ) → n ≡ 0 → order_count key n ≡ 0
@@ -193,7 +193,7 @@ mod_step key n some not_zero =
     (λ full. absurd (not_zero (ap (λ (m : ℕ). m % key) (let e : n + 1 ≡ (q + 1) * key + 0 = omega arith in e) ∙ mod-mul-add (q + 1) key 0 some)))
     (cases_lt (r + 1) key)
 
-next_order : (key n : ℕ) → is_idr key (n + 1) ≡ false → order_count key (n + 1) ≡ order_count key n + 1
+pub next_order : (key n : ℕ) → is_idr key (n + 1) ≡ false → order_count key (n + 1) ≡ order_count key n + 1
 next_order zero n h = refl
 next_order (suc k) n h =
     let p = or_parts (n + 1 == 0) (nat_lt 0 (suc k) && (n + 1) % suc k == 0) h in
@@ -203,12 +203,12 @@ next_order (suc k) n h =
     (and_cases (nat_lt 0 (suc k)) ((n + 1) % suc k == 0) p.1))
     ∙ sym (ap (λ (m : ℕ). m + 1) (order_mod k n)))
 
-low_order : (a : ℕ) → (a + 1) % 256 ≡ (a % 256 + 1) % 256
+pub low_order : (a : ℕ) → (a + 1) % 256 ≡ (a % 256 + 1) % 256
 low_order a = omega arith
 
 -- ---- pictures
 
-abbrev picture_unit : Settings → ℕ → Option Raster → Raster → NalUnit
+abbrev pub picture_unit : Settings → ℕ → Option Raster → Raster → NalUnit
 picture_unit settings n before raster = unit_with settings (is_idr settings.key n) (order_count settings.key n % 256) before raster
 
 picture_units : Settings → ℕ → Option Raster → List Raster → List NalUnit
@@ -216,13 +216,13 @@ picture_units settings n before [] = []
 picture_units settings n before (raster ∷ rasters) = picture_unit settings n before raster ∷ picture_units settings (n + 1) (Some raster) rasters
 
 -- what was decoded before picture n
-abbrev IsFollowing : Settings → ℕ → Option Raster → Option Decoded → Type 0
+abbrev pub IsFollowing : Settings → ℕ → Option Raster → Option Decoded → Type 0
 IsFollowing settings n None None = n ≡ 0
 IsFollowing settings n None (Some d) = ⊥
 IsFollowing settings n (Some raster) None = ⊥
 IsFollowing settings n (Some raster) (Some d) = (m : ℕ) × (n ≡ m + 1) × (d.poc ≡ order_count settings.key m % 256) × (d.planes ≡ planes settings.size (picture_of settings raster))
 
-abbrev decoded_as : Settings → ℕ → Raster → Decoded
+abbrev pub decoded_as : Settings → ℕ → Raster → Decoded
 decoded_as settings poc raster = record { poc = poc; planes = planes settings.size (picture_of settings raster) }
 
 -- an IDR picture
@@ -252,7 +252,7 @@ trail_is_read heads settings poc raster now d fit is small same follow =
     (slice_is_read heads settings false poc (Some raster) now (Some d) fit is small (λ e. absurd (cc)) stored)
     ∙ cond-true (poc == (d.poc + 1) % 256) _ _ (eq-eqb poc ((d.poc + 1) % 256) follow)
 
-picture_is_read : EachHeadIsRead → (settings : Settings) (n : ℕ) (before : Option Raster) (raster : Raster) (previous : Option Decoded) → IsFit settings.size → IsRaster settings.size raster → IsFollowing settings n before previous
+pub picture_is_read : EachHeadIsRead → (settings : Settings) (n : ℕ) (before : Option Raster) (raster : Raster) (previous : Option Decoded) → IsFit settings.size → IsRaster settings.size raster → IsFollowing settings n before previous
     → read_picture settings.size previous (picture_unit settings n before raster) ≡ Some (decoded_as settings (order_count settings.key n % 256) raster)
 picture_is_read heads settings n before raster previous fit is behind = go (is_idr settings.key n) refl before previous behind
   where
@@ -291,16 +291,16 @@ pictures_are_read heads settings n number before (raster ∷ rasters) previous f
 
 -- ---- the byte stream
 
-map_map : (f : ℕ → List ℕ) (list : List ℕ) → map (λ i. escape (f i)) list ≡ map escape (map f list)
+pub map_map : (f : ℕ → List ℕ) (list : List ℕ) → map (λ i. escape (f i)) list ≡ map escape (map f list)
 map_map f [] = refl
 map_map f (x ∷ list) = ap (λ (l : List (List ℕ)). escape (f x) ∷ l) (map_map f list)
 
-head_ends : (head : Head) → Ends (bytes (head_bits head))
+pub head_ends : (head : Head) → Ends (bytes (head_bits head))
 unfolding head_bits
 head_ends head = aligned_bits_end (fields_bits (head_fields head))
 
 -- a picture's piece is its NAL unit
-piece_is_unit : (settings : Settings) (n : ℕ) (before : Option Raster) (raster : Raster) → IsFit settings.size → IsRaster settings.size raster
+pub piece_is_unit : (settings : Settings) (n : ℕ) (before : Option Raster) (raster : Raster) → IsFit settings.size → IsRaster settings.size raster
     → picture_piece settings n before raster ≡ nal_unit_bytes (picture_unit settings n before raster)
 unfolding picture_piece slice_piece
 piece_is_unit settings n before raster fit is =
@@ -332,7 +332,7 @@ stream_is settings rasters fit are =
 
 -- ---- NAL units whose ends can be told
 
-unit_is : (settings : Settings) (idr : Bool) (poc : ℕ) (before : Option Raster) (raster : Raster) → IsFit settings.size → IsRaster settings.size raster → IsNalUnit (unit_with settings idr poc before raster)
+pub unit_is : (settings : Settings) (idr : Bool) (poc : ℕ) (before : Option Raster) (raster : Raster) → IsFit settings.size → IsRaster settings.size raster → IsNalUnit (unit_with settings idr poc before raster)
 unit_is settings idr poc before raster fit is = record {
   header = two_bytes idr;
   ends =
@@ -359,7 +359,7 @@ units_are settings n before (raster ∷ rasters) fit are = (unit_is settings (is
 
 -- ---- the law
 
-units_found : (list : List ℕ) (us : List NalUnit) → units list ≡ Ok us → units_or_number list ≡ Ok us
+pub units_found : (list : List ℕ) (us : List NalUnit) → units list ≡ Ok us → units_or_number list ≡ Ok us
 units_found list us e = rw (e, units_or_number) refl
 
 size_found : (size : Size) (rest : List NalUnit) → read_params (param_units size) ≡ Ok size → size_or_number (param_units size ++ rest) ≡ Ok size

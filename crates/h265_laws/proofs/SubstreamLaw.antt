@@ -18,7 +18,7 @@ last_is : (x : ℕ) (list : List ℕ) → Some (slice_index (x ∷ list) (length
 last_is x [] = refl
 last_is x (y ∷ list) = last_is y list
 
-ends_in : (list : List ℕ) → Ends list → 0 < slice_index list (length list - 1)
+pub ends_in : (list : List ℕ) → Ends list → 0 < slice_index list (length list - 1)
 unfolding value_or
 ends_in [] e = absurd (let k : None ≡ Some e.last = e.is None in cc)
 ends_in (x ∷ list) e =

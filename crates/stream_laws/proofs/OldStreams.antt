@@ -61,7 +61,7 @@ idr_order rbsp rows found h = front (read_fields (head_front true) (bits rbsp)) 
     front (Ok bs) g = middle (read_fields (head_middle true ++ golomb 10 (rows - 1) ∷ []) bs) g
 
 -- a whole picture
-abbrev now_whole : Decoded → Stand
+abbrev pub now_whole : Decoded → Stand
 now_whole now = record { last = Some now; begun = None; ended = true }
 
 ok_is : {A E : Type 0} (r : Result A E) (x : A) → ok_of r ≡ Some x → r ≡ Ok x
@@ -142,7 +142,7 @@ trail_same size stand before rbsp now last h = go (read_slice size false (Some b
 
 -- ---- NAL units
 
-step_same : (size : Size) (stand : Stand) (unit : NalUnit) (now : Decoded) → read_picture size stand.last unit ≡ Some now → step size false stand unit ≡ Some (now_whole now)
+pub step_same : (size : Size) (stand : Stand) (unit : NalUnit) (now : Decoded) → read_picture size stand.last unit ≡ Some now → step size false stand unit ≡ Some (now_whole now)
 unfolding step
 step_same size stand unit now h = go (bytes_eq unit.header (nal_header true)) (bytes_eq unit.header (nal_header false)) h
   where

@@ -78,7 +78,7 @@ abbrev pub AreStill : List Moving → Type 0
 AreStill [] = Unit {0}
 AreStill (u ∷ units) = IsStill u.vector × AreStill units
 
-still-append : (a b : List Moving) → AreStill a → AreStill b → AreStill (a ++ b)
+pub still-append : (a b : List Moving) → AreStill a → AreStill b → AreStill (a ++ b)
 still-append [] b h k = k
 still-append (u ∷ a) b h k = (h.0, still-append a b h.1 k)
 
@@ -141,7 +141,7 @@ first_still [] h = refl
 first_still (None ∷ os) h = first_still os h.1
 first_still (Some v ∷ os) h = h.0
 
-merge_still : (units : List Moving) (x y log2 : ℕ) → AreStill units → merge units x y log2 ≡ no_motion
+pub merge_still : (units : List Moving) (x y log2 : ℕ) → AreStill units → merge units x y log2 ≡ no_motion
 unfolding merge
 merge_still units x y log2 h =
     let n : ℕ = 2 ^ log2 in
@@ -151,7 +151,7 @@ merge_still units x y log2 h =
 -- ---- units
 
 -- a block within the picture is its own source
-fits : (limit n x : ℕ) → x + n ≤ limit → reaches limit n x (pos 0) ≡ true
+pub fits : (limit n x : ℕ) → x + n ≤ limit → reaches limit n x (pos 0) ≡ true
 fits limit n x h = le-leb (x + 0 + n) limit (omega arith)
 
 source_still : (size : Size) (x y log2 : ℕ) (c : Tree.Content) → x + 2 ^ log2 ≤ coded size.w → y + 2 ^ log2 ≤ coded size.h

@@ -1,34 +1,17 @@
--- Laws over the definitions of streams: those that tie streams with moves, segments and hashes to plain ones, and what is read back.
-use Rattle.std.specs.Prelude.{◌≡◌, true, false, nat_abs, ◌≤◌, ◌<◌, ℕ, zero, suc, ◌+◌, ◌*◌, ◌^◌, ◌⊎◌, MatchBool, List, [], ◌∷◌, ◌++◌, map, Ok, IfSome, Bool, IsTrue, length}
+-- Laws over the definitions of streams that tie those with moves, segments and hashes to plain ones, and of their parameter sets.
+use Rattle.std.specs.Prelude.{◌≡◌, true, false, ◌<◌, ℕ, List, ◌++◌, Ok, Bool, IsTrue}
 use Rattle.std.specs.List.{AllByRecursion}
-use Rattle.h265_model.specs.declared.Place.TheVariants.{Context}
-use Rattle.h265_model.specs.declared.moves.Vector.{Vector}
-use Rattle.h265_model.specs.Plain.{Size, AreBytes, coded, ctu_x, ctu_y}
-use Rattle.h265_model.specs.Bits.{bytes}
+use Rattle.h265_model.specs.Plain.{Size, AreBytes, coded}
 use Rattle.h265_model.specs.NalUnits.{NalUnit}
-use Rattle.h265_model.specs.SliceHead.{segment_bits, read_segment_head}
 use Rattle.h265_model.specs.ParamSets.{param_units, set_units, read_sets}
-use Rattle.h265_model.specs.Engine.{Reads, ◌>>=◌, give}
-use Rattle.h265_model.specs.Tree.{expect, Source, IsSource, AreModes, is_whole}
-use Rattle.h265_model.specs.Predict.{is_inside}
-use Rattle.h265_model.specs.Residual.{IsSide}
-use Rattle.h265_model.specs.MotionTree.{Content, Copied, Moved, Samples, Levels, ReadUnit, coding_unit_read, ctu_read}
-use Rattle.h265_model.specs.Motion.{Moving, leaves, leaf_as_coded, as_coded, merge, has_source, move_items, vector_read, still}
-use Rattle.h265_model.specs.declared.moves.MoveLeaf.{MoveLeaf}
-use Rattle.h265_model.specs.declared.moves.MoveKind.{MoveKind}
-use Rattle.h265_model.specs.declared.moves.MoveKind.TheVariants as moves
-use Rattle.h265_model.specs.declared.leaf.SliceKind.TheVariants.{I, P}
-use Rattle.h265_model.specs.declared.leaf.SliceKind.{SliceKind}
-use Rattle.h265_model.specs.declared.leaf.Leaf.{Leaf}
-use Rattle.h265_model.specs.Slice.{row_code}
-use Rattle.h265_model.specs.Raster.{Raster}
+use Rattle.h265_model.specs.Raster.{Raster, IsRaster}
+use Rattle.h265_model.specs.declared.extra.Extra.{Extra}
 use Rattle.h265_model.specs.declared.extra.Extra.TheVariants.{Plain}
 use Rattle.h265_model.specs.Settings.{Settings, is_size}
 use Rattle.h265_model.specs.Stream.{stream_of}
-use Rattle.h265_model.specs.ExtraStream.{extra_stream}
+use Rattle.h265_model.specs.ExtraStream.{extra_pieces, extra_stream}
 use Rattle.h265_model.specs.Decode.{decode}
 use Rattle.h265_model.specs.DecodeAll.{decode_all}
-use Rattle.h265_model.specs.Walks.{UnitItems, ctu_items_of, still_unit, move_unit, code_of}
 
 -- parameter sets without segments (7.3.2)
 abbrev pub EachSetIsPlain : Type 0
@@ -45,129 +28,23 @@ EachSetIsSpelled =
     (us : List NalUnit) (size : Size) (segments : Bool) → AllByRecursion (λ unit. AreBytes unit.rbsp) us → read_sets us ≡ Ok (size, segments) →
     (us ≡ set_units size segments) × (segments ≡ true → 32 < coded size.w)
 
--- the order count that a segment's header tells
-abbrev pub order_told : ℕ → ℕ → ℕ
-order_told zero poc = poc
-order_told (suc address) poc = 0
-
--- a slice segment header, whatever follows it (7.3.6.1)
-abbrev pub EachSegmentHeadIsRead : Type 0
-EachSegmentHeadIsRead =
-    (idr : Bool) (poc address ctus : ℕ) (rest : List ℕ) → poc < 256 → (IsTrue idr → poc ≡ 0) → address < ctus → ctus ≤ 2 ^ 32 →
-    read_segment_head (bytes (segment_bits idr poc address ctus) ++ rest) idr address ctus ≡ Ok (order_told address poc, length (bytes (segment_bits idr poc address ctus)))
-
--- ---- vectors
-
--- a vector of at most 4095 samples each way
-pub record IsShort (v : Vector) : Type 0 where
-  pub x : nat_abs v.x ≤ 4095
-  pub y : nat_abs v.y ≤ 4095
-
--- what is written of a vector with its predictors is read (7.3.8.6, 7.3.8.9)
-abbrev pub EachVectorIsRead : Type 0
-EachVectorIsRead =
-    (v : Vector) (both : Vector × Vector) → IsShort v → IsShort both.0 → IsShort both.1 →
-    Reads (expect (Context 125) false (vector_read both >>= λ w. expect (Context 129) false (give w))) (move_items v both) v
-
--- ---- coding units
-
--- units whose vectors are short
-abbrev pub AreShort : List Moving → Type 0
-AreShort units = AllByRecursion (λ unit. IfSome unit.vector IsShort) units
-
--- what a unit of this kind needs to be read: no copy in an I slice, its source in the picture, a short vector, a mode
-abbrev pub CanStand : SliceKind → Size → List Moving → ℕ → ℕ → ℕ → MoveKind → Type 0
-CanStand I size before x y log2 moves.Skip = ⊥
-CanStand P size before x y log2 moves.Skip = has_source size x y log2 (merge before x y log2) ≡ true
-CanStand I size before x y log2 (moves.Move v) = ⊥
-CanStand P size before x y log2 (moves.Move v) = IsShort v × (has_source size x y log2 v ≡ true)
-CanStand kind size before x y log2 moves.Pcm = Unit {0}
-CanStand kind size before x y log2 (moves.Intra mode) = mode < 35
-
--- what is read of a unit
-abbrev pub unit_content : Source → List Moving → MoveLeaf → MoveKind → Content
-unit_content source before unit moves.Skip = Copied (merge before unit.x unit.y unit.log2)
-unit_content source before unit (moves.Move v) = Moved v
-unit_content source before unit moves.Pcm =
-    let leaf : Leaf = leaf_as_coded unit in
-    Samples (source.samples leaf 0 ∷ source.samples leaf 1 ∷ source.samples leaf 2 ∷ [])
-unit_content source before unit (moves.Intra mode) =
-    let leaf : Leaf = leaf_as_coded unit in
-    Levels mode (source.levels leaf 0 ∷ source.levels leaf 1 ∷ source.levels leaf 2 ∷ [])
-
--- a coding unit where blocks may move (7.3.8.5)
-abbrev pub EachUnitIsRead : Type 0
-EachUnitIsRead =
-    (kind : SliceKind) (size : Size) (source : Source) (before : List Moving) (x y log2 : ℕ) (k : MoveKind) → IsSide log2 → IsSource source →
-    AreModes (leaves before) → AreShort before → CanStand kind size before x y log2 k →
-    Reads (coding_unit_read kind size before x y log2) (move_unit kind source before (record { x = x; y = y; log2 = log2; kind = k }))
-    (record { x = x; y = y; log2 = log2; content = unit_content source before (record { x = x; y = y; log2 = log2; kind = k }) k } ∷ [])
-
--- ---- coding tree units
-
--- each unit can stand after those before it
-abbrev pub CanStandAll : SliceKind → Size → List Moving → List MoveLeaf → Type 0
-CanStandAll kind size before [] = Unit {0}
-CanStandAll kind size before (unit ∷ units) =
-    CanStand kind size before unit.x unit.y unit.log2 unit.kind × CanStandAll kind size (before ++ as_coded before unit ∷ []) units
-
--- what is read of some units after those before
-abbrev pub reads_after : Source → List Moving → List MoveLeaf → List ReadUnit
-reads_after source before [] = []
-reads_after source before (unit ∷ units) =
-    record { x = unit.x; y = unit.y; log2 = unit.log2; content = unit_content source before unit unit.kind } ∷ reads_after source (before ++ as_coded before unit ∷ []) units
-
--- the units of a block of side 2 ^ (3 + depth) at (x, y), in the order of coding (7.3.8.4)
-pub record IsOneUnit (x y log2 : ℕ) (units : List MoveLeaf) : Type 0 where
-  pub kind : MoveKind
-  pub one : units ≡ record { x = x; y = y; log2 = log2; kind = kind } ∷ []
-
-pub record AreFourParts (Tree : ℕ → ℕ → List MoveLeaf → Type 0) (half x y : ℕ) (units : List MoveLeaf) : Type 0 where
-  pub first : List MoveLeaf
-  pub second : List MoveLeaf
-  pub third : List MoveLeaf
-  pub fourth : List MoveLeaf
-  pub together : units ≡ first ++ second ++ third ++ fourth
-  pub top_left : Tree x y first
-  pub top_right : Tree (x + half) y second
-  pub bottom_left : Tree x (y + half) third
-  pub bottom_right : Tree (x + half) (y + half) fourth
-
-abbrev pub IsUnitTree : Size → ℕ → ℕ → ℕ → List MoveLeaf → Type 0
-IsUnitTree size zero x y units = MatchBool (is_inside size x y) (IsOneUnit x y 3 units) (units ≡ [])
-IsUnitTree size (suc depth) x y units =
-    let half : ℕ = 2 ^ (3 + depth) in
-    MatchBool (is_inside size x y)
-    (MatchBool (is_whole size (2 * half) x y)
-    (IsOneUnit x y (4 + depth) units ⊎ AreFourParts (IsUnitTree size depth) half x y units)
-    (AreFourParts (IsUnitTree size depth) half x y units))
-    (units ≡ [])
-
--- a coding tree unit where blocks may move (7.3.8.2)
-abbrev pub EachUnitTreeIsRead : Type 0
-EachUnitTreeIsRead =
-    (kind : SliceKind) (size : Size) (source : Source) (ctu : ℕ) (before : List Moving) (units : List MoveLeaf) → IsSource source →
-    AreModes (leaves before) → AreShort before → IsUnitTree size 2 (ctu_x size ctu) (ctu_y size ctu) units → CanStandAll kind size before units →
-    Reads (ctu_read kind size before ctu) (ctu_items_of (move_unit kind source) size before units ctu) (reads_after source before units)
-
--- ---- rows
-
--- the rows that units give where none moves
-abbrev pub AreStill : (SliceKind → Source → UnitItems) → Type 0
-AreStill unit =
-    (kind : SliceKind) (size : Size) (source : Source) (leaves : List (List Leaf)) (row : ℕ) →
-    code_of kind (unit kind source) size (map (map still) leaves) row ≡ row_code kind size source leaves row
-
--- in streams without moves, and in streams with moves (7.3.8.1 to 7.3.8.5)
-abbrev pub EachRowIsStill : Type 0
-EachRowIsStill = AreStill still_unit × AreStill move_unit
-
 -- ---- streams
 
 -- streams of pictures alone
 abbrev pub EachPlainStreamIsThat : Type 0
 EachPlainStreamIsThat = (settings : Settings) (pictures : List Raster) → extra_stream settings Plain pictures ≡ stream_of settings pictures
 
+-- they are decoded to the pictures
+abbrev pub EachPlainStreamIsDecoded : Type 0
+EachPlainStreamIsDecoded =
+    (settings : Settings) (pictures : List Raster) → IsTrue (is_size settings.size) → AllByRecursion (IsRaster settings.size) pictures →
+    decode_all (extra_stream settings Plain pictures) ≡ Ok (settings.size, pictures)
+
 -- a stream that was decoded without regard to moves, segments and hashes is decoded to the same
 abbrev pub EachOldStreamIsDecoded : Type 0
 EachOldStreamIsDecoded = (stream : List ℕ) (size : Size) (pictures : List Raster) → decode stream ≡ Ok (size, pictures) → decode_all stream ≡ Ok (size, pictures)
+
+-- the pieces of a list of pictures, of any kind, begin those of a longer one
+abbrev pub EachPieceIsKept : Type 0
+EachPieceIsKept =
+    (settings : Settings) (extra : Extra) (ps qs : List Raster) → (rest : List (List ℕ)) × (extra_pieces settings extra (ps ++ qs) ≡ extra_pieces settings extra ps ++ rest)

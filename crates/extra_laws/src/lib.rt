@@ -1,0 +1,9 @@
+//! The law of streams of every kind: pictures alone, with hashes, in segments, or with moved blocks. The function does nothing: its clause is the law.
+#![tactic(auto)]
+
+ghost use Rattle.extra_laws.specs.Laws.{EachExtraStreamIsDecoded};
+
+/// The stream of each list of pictures, whatever it has besides them, is decoded to them.
+pub fn each_extra_stream_is_decoded()
+    ensures { EachExtraStreamIsDecoded }
+{}

@@ -1,0 +1,3 @@
+pub mod MovedChoice
+pub mod MovedSlices
+pub mod MovedStreams

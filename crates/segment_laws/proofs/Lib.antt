@@ -1,0 +1,4 @@
+pub mod SegmentLaw
+pub mod SegmentRows
+pub mod SegmentStreams
+pub mod SegmentSpelling

@@ -1,0 +1,55 @@
+-- The stream of pictures alone is decoded to them.
+use Rattle.std.proofs.Common.{refl, sym, ◌∙◌, ap, ℕ, ◌+◌, ◌%◌, ◌<◌, List, [], ◌∷◌, false, append-nil}
+use Rattle.std.specs.Prelude.{Option, Ok}
+use Rattle.h265_model.specs.declared.extra.Extra.TheVariants.{Plain}
+use Rattle.h265_model.specs.Plain.{Size}
+use Rattle.h265_model.specs.Bits.{◌>>-◌}
+use Rattle.h265_model.specs.Settings.{Settings}
+use Rattle.h265_model.specs.Raster.{Raster, IsRaster}
+use Rattle.h265_model.specs.NalUnits.{NalUnit, nal_unit_bytes, stream_bytes}
+use Rattle.h265_model.specs.Stream.{order_count}
+use Rattle.h265_model.specs.Decode.{Decoded}
+use Rattle.h265_model.specs.ExtraStream.{extra_piece}
+use Rattle.h265_model.specs.DecodeAll.{Stand, read_units}
+use Rattle.h265_laws.proofs.HeadLaws.{read_head-head_bits}
+use Rattle.h265_laws.proofs.ParamLaws.{in_limits}
+use Rattle.h265_laws.proofs.PictureLaw.{IsFit, size_fits, cropped}
+use Rattle.h265_laws.proofs.StreamLaw.{picture_unit, IsFollowing, decoded_as, picture_is_read, piece_is_unit, unit_is}
+use Rattle.stream_laws.specs.Laws.{EachPlainStreamIsDecoded}
+use Rattle.stream_laws.proofs.SetsLaw.{sets_are_read}
+use Rattle.stream_laws.proofs.OldStreams.{now_whole, step_same}
+use Rattle.stream_laws.proofs.StreamForm.{one_step, ReadsOn, AreRead, stream_is_decoded}
+
+plain_units : Settings → ℕ → Option Raster → Raster → List NalUnit
+plain_units settings n before raster = picture_unit settings n before raster ∷ []
+
+plain_is_read : (settings : Settings) → IsFit settings.size → 0 < settings.size.w → (n number : ℕ) (before : Option Raster) (raster : Raster) (stand : Stand) (rest : List NalUnit)
+    → IsRaster settings.size raster → IsFollowing settings n before stand.last → ReadsOn settings false n number raster stand (plain_units settings n before raster) rest
+unfolding plain_units
+plain_is_read settings fit some n number before raster stand rest is behind =
+    let size : Size = settings.size in
+    let now : Decoded = decoded_as settings (order_count settings.key n % 256) raster in
+    let unit : NalUnit = picture_unit settings n before raster in
+    record {
+      next = number + 1;
+      after = now_whole now;
+      whole = refl;
+      last = refl;
+      reads =
+          one_step size false number stand (now_whole now) unit rest (step_same size stand unit now (picture_is_read read_head-head_bits settings n before raster stand.last fit is behind))
+          ∙ ap (λ (r : Raster). read_units size false (number + 1) (now_whole now) rest >>- λ others. Ok (r ∷ others)) (cropped size raster is some);
+    }
+
+plain_are_read : (settings : Settings) → IsFit settings.size → 0 < settings.size.w → AreRead settings Plain (plain_units settings)
+unfolding extra_piece stream_bytes plain_units
+plain_are_read settings fit some = record {
+  pieces = λ n before raster is. piece_is_unit settings n before raster fit is ∙ sym (append-nil (nal_unit_bytes (picture_unit settings n before raster)));
+  are = λ n before raster is. (unit_is settings _ _ before raster fit is, tt);
+  read = λ n number before raster stand rest is behind whole. plain_is_read settings fit some n number before raster stand rest is behind;
+}
+
+pub plain_streams_are_decoded : EachPlainStreamIsDecoded
+plain_streams_are_decoded settings rasters size_is are =
+    stream_is_decoded settings Plain (plain_units settings)
+    (plain_are_read settings (size_fits settings.size size_is) (in_limits settings.size size_is).w_low)
+    (sets_are_read settings.size false size_is (λ e. absurd (cc))) rasters are

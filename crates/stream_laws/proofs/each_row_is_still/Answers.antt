@@ -1,5 +1,0 @@
-use Rattle.stream_laws.proofs.each_row_is_still.Goals as goal
-use Rattle.stream_laws.proofs.StillLaw.{rows_are_still}
-
-pub returns : goal.returns
-returns c = rows_are_still

@@ -1,0 +1,11 @@
+pub mod MotionLaw
+pub mod StillLaw
+pub mod UnitLaw
+pub mod UnitTreeLaw
+pub mod UnitRows
+pub mod UnitForm
+pub mod StillUnits
+pub mod UnitCover
+pub mod UnitRebuild
+pub mod Coded
+pub mod UnitLength
