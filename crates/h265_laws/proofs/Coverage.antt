@@ -9,7 +9,8 @@ use Rattle.h265_model.specs.declared.leaf.Leaf.{Leaf}
 use Rattle.h265_model.specs.Plain.{Size, ctus, coded, leaf_with, ctu_x, ctu_y}
 use Rattle.h265_model.specs.Predict.{is_inside, coding_order}
 use Rattle.h265_model.specs.Residual.{IsSide, eight, sixteen, thirty_two}
-use Rattle.h265_model.specs.Tree.{covers, leaf_side, is_whole, IsTree, IsLawfulTree, IsCodingUnit, AreQuarters}
+use Rattle.h265_model.specs.Tree.{is_whole, IsTree, IsLawfulTree, IsCodingUnit, AreQuarters}
+use Rattle.h265_model.specs.Plain.{covers, leaf_side}
 use Rattle.h265_laws.proofs.ZOrder.{IsWithin, in_block, QuartersFollow, quarters_follow}
 
 -- one of these leaves covers the place

@@ -1,3 +1,5 @@
+pub mod LeafReading
+pub mod LeafDecoding
 pub mod HeadLaws
 pub mod HeadSpellingLaws
 pub mod ParamLaws

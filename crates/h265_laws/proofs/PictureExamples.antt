@@ -14,9 +14,11 @@ use Rattle.h265_model.specs.Code.{code, closing, put_bin}
 use Rattle.h265_model.specs.Residual.{scan, scan_kind, residual_items, residual_read, cbf, in_coding_order, in_rows, last_context, sig_context, sub_block_context, greater1_context, greater2_context}
 use Rattle.h265_model.specs.Modes.{candidates, mode_items, mode_read}
 use Rattle.h265_model.specs.Predict.{coding_order, neighbours, is_filtered, references, angle, inverse_angle, predict}
-use Rattle.h265_model.specs.Tree.{split_context, skip_context, candidates_at, coding_unit_items, ctu_items, source_of, items_of_row, row_items, coding_unit_read, ctu_read, read_row, ReadCtu}
+use Rattle.h265_model.specs.Tree.{split_context, skip_context, candidates_at, coding_unit_items, ctu_items, source_of, items_of_row, row_items, coding_unit_read, ctu_read, ReadCtu}
+use Rattle.h265_model.specs.Slice.{slice_row_read}
+use Rattle.h265_model.specs.Motion.{vector_before, merge, predictors, has_source}
+use Rattle.h265_model.specs.Rebuild.{moved_samples, block_of, rebuild}
 use Rattle.h265_model.specs.Choice.{intra_cost, pcm_cost, is_copy, modes_of, leaf_plan, choice}
-use Rattle.h265_model.specs.Rebuild.{block_of, rebuild}
 use Rattle.h265_model.specs.Bits.{bits as bits_of, ◌>>=◌ as and_then, u, digits_up_to, value_after, read_u, read_alignment}
 use Rattle.h265_model.specs.Raster.{planes, blank}
 
@@ -68,13 +70,13 @@ slanted_cost = refl
 abbrev planes_read : SliceKind → Size → Picture → List ℕ → Option (List (List ℕ))
 planes_read kind size prev bytes =
     and_then (Engine.start (start kind) (bits_of bytes)) (λ e.
-    and_then (read_row kind size 0 [] e) (λ found.
-    if is_done found.1 then Some (rebuild size prev (joined (map (λ (c : ReadCtu). c.leaves) found.0))) else None))
+    and_then (slice_row_read kind size 0 [] e) (λ found.
+    if is_done found.1 then Some (rebuild size prev (joined (map (λ (c : ReadCtu). c.units) found.0))) else None))
 
 pub grey_read : planes_read I (size_of 8 8) blank (0x15 ∷ 0x1D ∷ 0xC0 ∷ []) ≡ Some (planes (size_of 8 8) grey)
-unfolding start Engine.start lps_range doublings next renormalised context_read bypass_read terminate_read aligned samples is_done read_row ctu_read coding_unit_read split_context skip_context candidates_at candidates mode_read cbf residual_read in_rows scan scan_kind rebuild block_of predict references is_filtered neighbours coding_order angle inverse_angle u digits_up_to value_after read_u read_alignment
+unfolding start Engine.start lps_range doublings next renormalised context_read bypass_read terminate_read aligned samples is_done ctu_read coding_unit_read split_context skip_context candidates_at candidates mode_read cbf residual_read in_rows scan scan_kind rebuild block_of predict references is_filtered neighbours coding_order angle inverse_angle u digits_up_to value_after read_u read_alignment vector_before merge predictors has_source moved_samples slice_row_read
 grey_read = refl
 
 pub striped_read : planes_read I (size_of 8 16) blank (code (row_items I (size_of 8 16) striped ((leaf 0 0 3 Pcm ∷ leaf 0 8 3 (Intra 26) ∷ []) ∷ []) 0) (start I)) ≡ Some (planes (size_of 8 16) striped)
-unfolding start Engine.start lps_range doublings next renormalised context_read bypass_read terminate_read aligned samples is_done read_row ctu_read coding_unit_read split_context skip_context candidates_at candidates mode_read cbf residual_read in_rows scan scan_kind rebuild block_of predict references is_filtered neighbours coding_order angle inverse_angle code closing put_bin items_of_row ctu_items coding_unit_items source_of mode_items residual_items in_coding_order last_context sig_context sub_block_context greater1_context greater2_context u digits_up_to value_after read_u read_alignment
+unfolding start Engine.start lps_range doublings next renormalised context_read bypass_read terminate_read aligned samples is_done ctu_read coding_unit_read split_context skip_context candidates_at candidates mode_read cbf residual_read in_rows scan scan_kind rebuild block_of predict references is_filtered neighbours coding_order angle inverse_angle code closing put_bin items_of_row ctu_items coding_unit_items source_of mode_items residual_items in_coding_order last_context sig_context sub_block_context greater1_context greater2_context u digits_up_to value_after read_u read_alignment vector_before merge predictors has_source moved_samples slice_row_read
 striped_read = refl

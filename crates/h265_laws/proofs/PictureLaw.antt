@@ -11,9 +11,11 @@ use Rattle.h265_model.specs.Raster.{black}
 use Rattle.h265_model.specs.Settings.{is_size}
 use Rattle.h265_model.specs.Raster.{Raster, component, coded_picture, planes, stored_picture, crop}
 use Rattle.h265_model.specs.Choice.{choice}
-use Rattle.h265_model.specs.Tree.{samples_in, leaf_side, IsCopy}
+use Rattle.h265_model.specs.Tree.{samples_in, IsCopy}
+use Rattle.h265_model.specs.Plain.{leaf_side}
 use Rattle.h265_model.specs.Raster.{IsColour, IsRaster}
-use Rattle.h265_laws.specs.Laws.{EachRowIsWellFormed, EachSliceIsRead, EachPictureIsRebuilt, EachRasterIsCropped}
+use Rattle.h265_laws.specs.Laws.{EachRowIsWellFormed, EachRasterIsCropped}
+use Rattle.h265_laws.proofs.LeafDecoding.{EachSliceIsRead, EachPictureIsRebuilt}
 use Rattle.h265_laws.proofs.ParamLaws.{InLimits, in_limits}
 use Rattle.h265_model.proofs.Squares.{length_places, at_places, same_places}
 use Rattle.h265_laws.proofs.Coverage.{Covers, ArePlaced, CoversBlock}

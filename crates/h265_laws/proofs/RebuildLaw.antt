@@ -13,8 +13,11 @@ use Rattle.h265_model.specs.Raster.{plane, planes, blank}
 use Rattle.std.proofs.lemmas.Nat.{row_fits_turned}
 use Rattle.std.proofs.lemmas.Int.{ints}
 use Rattle.h265_model.specs.Predict.{z_order, is_inside, is_available, coding_order, seen, neighbours, references, substituted, smoothed, is_filtered, predict, prediction, predicted}
-use Rattle.h265_model.specs.Tree.{source_of, covers, leaf_side, samples_in, differences, levels_in, mode_of, content_of, read_of, reads_of, IsCopy}
-use Rattle.h265_model.specs.Rebuild.{sums, block_of, with_block, with_leaf, with_leaves, rebuild}
+use Rattle.h265_model.specs.Tree.{source_of, samples_in, differences, levels_in, mode_of, IsCopy}
+use Rattle.h265_model.specs.Plain.{covers, leaf_side}
+use Rattle.h265_laws.proofs.LeafReading.{content_of, read_of, reads_of}
+use Rattle.h265_model.specs.Rebuild.{sums, with_block}
+use Rattle.h265_laws.proofs.LeafDecoding.{block_of, with_leaf, with_leaves, rebuild}
 use Rattle.h265_model.proofs.Squares.{length_places, at_places, same_places, same_below, all_places}
 use Rattle.h265_laws.proofs.ZOrder.{IsWithin, splits, Splits}
 use Rattle.h265_laws.proofs.Coverage.{is_covered, Covers, IsPlaced, ArePlaced, covers_parts, inside_parts, inside_from, inside_column}

@@ -11,7 +11,8 @@ use Rattle.h265_model.specs.Engine.{Engine, Part, parts_of, Gives, Reader, ◌>>
 use Rattle.std.specs.Bool.{beq}
 use Rattle.h265_model.specs.Code.{contexts_after, put_bin}
 use Rattle.h265_laws.proofs.TreeLaw.{ctu_law, after_is, tree_modes}
-use Rattle.h265_model.specs.Tree.{IsMode, Source, ReadLeaf, ReadCtu, leaves_after, expect, contexts_read, ctu_read, ctu_items, ctus_read, ctu_with_flag, is_last, read_row, items_of_row, IsSource, AreModes, reads_of, AreLawfulTrees, values_from}
+use Rattle.h265_model.specs.Tree.{IsMode, Source, expect, contexts_read, ctu_items, ctu_with_flag, is_last, items_of_row, IsSource, AreModes, AreLawfulTrees}
+use Rattle.h265_laws.proofs.LeafReading.{ReadLeaf, ReadCtu, leaves_after, ctu_read, ctus_read, read_row, reads_of, values_from}
 use Rattle.h265_laws.proofs.Parts.{BeginsWithBin, parts_of-append, GivesBoth, gives_both, named_contexts}
 use Rattle.h265_model.specs.Bits.{◌>>=◌ as and_then}
 use Rattle.h265_model.proofs.ListParts.{all_append}

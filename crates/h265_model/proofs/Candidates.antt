@@ -6,7 +6,8 @@ use Rattle.h265_model.specs.declared.leaf.Kind.{Kind}
 use Rattle.h265_model.specs.declared.leaf.Kind.TheVariants.{Skip, Pcm, Intra}
 use Rattle.h265_model.specs.declared.leaf.Leaf.{Leaf}
 use Rattle.h265_model.specs.Modes.{candidates, AreThree}
-use Rattle.h265_model.specs.Tree.{candidate, candidates_at, mode_of, left_of, above, leaf_at, covers, IsMode, AreModes}
+use Rattle.h265_model.specs.Tree.{candidate, candidates_at, mode_of, left_of, above, leaf_at, IsMode, AreModes}
+use Rattle.h265_model.specs.Plain.{covers}
 
 candidates_fit : ℕ → ℕ → Bool
 unfolding candidates

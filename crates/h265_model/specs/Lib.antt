@@ -26,10 +26,6 @@ pub mod Modes
 pub mod Predict
 pub mod Motion
 pub mod Hash
-pub mod MotionTree
-pub mod MotionSlice
-pub mod MotionRebuild
-pub mod DecodeAll
 pub mod Walks
 pub mod MotionChoice
 pub mod ExtraStream

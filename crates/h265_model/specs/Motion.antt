@@ -11,12 +11,11 @@ use Rattle.h265_model.specs.declared.moves.MoveLeaf.{MoveLeaf}
 use Rattle.h265_model.specs.declared.leaf.Kind.{Kind}
 use Rattle.h265_model.specs.declared.leaf.Kind.TheVariants.{Skip, Pcm, Intra}
 use Rattle.h265_model.specs.declared.leaf.Leaf.{Leaf}
-use Rattle.h265_model.specs.Plain.{Size, coded, leaf_with, context_bin, bypass_bin}
+use Rattle.h265_model.specs.Plain.{Size, coded, leaf_with, covers, context_bin, bypass_bin}
 use Rattle.h265_model.specs.SyntaxElements.{merge_flag, mvp_l0_flag, abs_mvd_greater0_flag, abs_mvd_greater1_flag, rqt_root_cbf}
 use Rattle.h265_model.specs.Engine.{Reader, ◌>>=◌, give, refuse, bin}
 use Rattle.h265_model.specs.Residual.{is_negative, signed}
 use Rattle.h265_model.specs.Binarise.{eg, bypass_bins, eg_read}
-use Rattle.h265_model.specs.Tree.{covers}
 
 -- ---- units that are coded already, with their vectors
 

@@ -12,7 +12,7 @@ use Rattle.h265_model.specs.Predict.{is_inside}
 use Rattle.h265_model.specs.Tree.{samples_in, is_whole}
 use Rattle.h265_model.specs.Choice.{intra_cost, pcm_cost, same, modes_of}
 use Rattle.h265_model.specs.Motion.{Moving, vector, no_motion, merge, has_source, leaf_as_coded, coded_after}
-use Rattle.h265_model.specs.MotionRebuild.{moved_samples}
+use Rattle.h265_model.specs.Rebuild.{moved_samples}
 
 -- units and their cost
 pub record MovePlan : Type 0 where

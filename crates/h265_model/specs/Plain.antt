@@ -1,5 +1,5 @@
 -- Plain data that the definitions share.
-use Rattle.std.specs.Prelude.{ℕ, ◌+◌, ◌*◌, ◌/◌, Bool, List, map, flat_map, ◌<◌, ◌%◌}
+use Rattle.std.specs.Prelude.{ℕ, ◌+◌, ◌*◌, ◌/◌, ◌^◌, Bool, ◌&&◌, List, map, flat_map, nat_le, nat_lt, ◌<◌, ◌%◌}
 use Rattle.std.specs.List.{range_with_len, AllByRecursion}
 use Rattle.h265_model.specs.declared.Item.{Item}
 use Rattle.h265_model.specs.declared.Place.TheVariants.{Context, Bypass, Terminate}
@@ -58,6 +58,12 @@ terminate_bin value = items.Bin (record { value = value; place = Terminate })
 
 abbrev pub leaf_with : ℕ → ℕ → ℕ → Kind → Leaf
 leaf_with x y log2 kind = record { x = x; y = y; log2 = log2; kind = kind }
+
+abbrev pub leaf_side : Leaf → ℕ
+leaf_side leaf = 2 ^ leaf.log2
+
+abbrev pub covers : ℕ → ℕ → Leaf → Bool
+covers x y leaf = nat_le leaf.x x && nat_lt x (leaf.x + leaf_side leaf) && nat_le leaf.y y && nat_lt y (leaf.y + leaf_side leaf)
 
 -- a picture whose samples are bytes
 pub record IsPicture (picture : Picture) : Type 0 where

@@ -1,13 +1,17 @@
--- The slice segment data of a picture, row by row (7.3.8.1, 9.3.1, 9.3.2).
-use Rattle.std.specs.Prelude.{ℕ, zero, suc, ◌+◌, ◌&&◌, List, [], ◌∷◌, ◌++◌, map, Option, Some, None, ◌==◌, nat_le, if◌then◌else◌, ◌<◌, ◌≡◌, ◌*◌, length}
+-- Slice data: the bytes of rows and their contexts, and reading them, in one segment with entry points or in one for each row
+-- (7.3.8.1, 7.4.7.1, 9.3.1, 9.3.2).
+use Rattle.std.specs.Prelude.{ℕ, zero, suc, ◌+◌, ◌&&◌, List, [], ◌∷◌, ◌++◌, map, Option, Some, None, ◌==◌, nat_le, if◌then◌else◌, ◌<◌, ◌≡◌, ◌*◌, length, true}
 use Rattle.h265_model.specs.declared.leaf.SliceKind.{SliceKind}
 use Rattle.h265_model.specs.declared.leaf.Leaf.{Leaf}
 use Rattle.h265_model.specs.Plain.{Size, ctus}
 use Rattle.h265_model.specs.Bits.{◌>>=◌, bits}
-use Rattle.h265_model.specs.Engine.{start, is_done}
+use Rattle.h265_model.specs.Engine.{start, is_done, Engine, Reader, give}
 use Rattle.h265_model.specs.Contexts.{row_start}
 use Rattle.h265_model.specs.Code.{code, contexts_after}
-use Rattle.h265_model.specs.Tree.{Source, ctus_items, items_of_row, read_row, leaf_of, ReadCtu, IsSource, AreLawfulTrees}
+use Rattle.h265_model.specs.Tree.{Source, ctus_items, items_of_row, IsSource, AreLawfulTrees, expect, is_last, ReadUnit, ReadCtu, units_of, units_after, ctus_read, ends_row}
+use Rattle.h265_model.specs.declared.Place.TheVariants.{Terminate}
+use Rattle.h265_model.specs.Engine as Engine
+use Rattle.h265_model.specs.Motion.{Moving}
 
 -- ---- writing, given the leaves of all CTUs
 
@@ -45,34 +49,49 @@ substreams (offset ∷ offsets) bytes = do
   others ← substreams offsets cut.1
   Some (cut.0 ∷ others)
 
-abbrev pub leaves_of : List ReadCtu → List (List Leaf)
-leaves_of ctus = map (λ ctu. map leaf_of ctu.leaves) ctus
+-- end_of_subset_one_bit, after each row but the last
+abbrev pub subset_end : Size → ℕ → List ReadCtu → Reader (List ReadCtu)
+subset_end size row read = if row + 1 == ctus size.h then give read else expect Terminate true (give read)
 
--- what a row hands on: the contexts after its second CTU
+-- 7.3.8.1: a row of a slice that is one segment, after the units of the rows above
+unfoldable pub slice_row_read : SliceKind → Size → ℕ → List Moving → Reader (List ReadCtu)
+slice_row_read kind size row before =
+    Engine.◌>>=◌ (ctus_read kind size (is_last size) (ctus size.w) (row * ctus size.w) before) (subset_end size row)
+
+-- the same of a row that is a segment of its own: end_of_slice_segment_flag ends it
+unfoldable pub segment_row_read : SliceKind → Size → ℕ → List Moving → Reader (List ReadCtu)
+segment_row_read kind size row before = ctus_read kind size (ends_row size) (ctus size.w) (row * ctus size.w) before
+
+-- what a row hands on: the contexts after its second coding tree unit (9.3.2.2, TableStateIdxWpp)
 abbrev pub handed_on : List ReadCtu → List ℕ
 handed_on (first ∷ second ∷ ctus) = second.contexts
 handed_on _ = []
 
--- a row of these bytes, all of them, after the leaves of all CTUs before
-unfoldable pub row_read : SliceKind → Size → ℕ → List (List Leaf) → List ℕ → List ℕ → Option (List ReadCtu)
-row_read kind size row before handed bytes = do
-  first ← start (row_start kind (ctus size.w) row handed) (bits bytes)
-  read ← read_row kind size row before first
+-- a row is read from these bytes, all of them
+unfoldable pub row_of_bytes : Reader (List ReadCtu) → List ℕ → List ℕ → Option (List ReadCtu)
+row_of_bytes row_read contexts bytes = do
+  first ← start contexts (bits bytes)
+  read ← row_read first
   if is_done read.1 then Some read.0 else None
 
--- the rows from this number on
-unfoldable pub read_rows : SliceKind → Size → ℕ → List (List Leaf) → List ℕ → List (List ℕ) → Option (List ReadCtu)
-read_rows kind size row before handed [] = Some []
-read_rows kind size row before handed (bytes ∷ rows) = do
-  read ← row_read kind size row before handed bytes
-  others ← read_rows kind size (row + 1) (before ++ leaves_of read) (handed_on read) rows
-  Some (read ++ others)
+-- the rows from this number on, after these units and what the row above handed on
+unfoldable pub rows_read : SliceKind → Size → ℕ → List Moving → List ℕ → List (List ℕ) → Option (List ReadUnit)
+rows_read kind size row before handed [] = Some []
+rows_read kind size row before handed (bytes ∷ rows) = do
+  read ← row_of_bytes (slice_row_read kind size row before) (row_start kind (ctus size.w) row handed) bytes
+  others ← rows_read kind size (row + 1) (units_after before (units_of read)) (handed_on read) rows
+  Some (units_of read ++ others)
 
--- what slice data after a header holds, by CTU
-abbrev pub read_data : SliceKind → Size → List ℕ → List ℕ → Option (List ReadCtu)
-read_data kind size offsets bytes = do
+-- what slice data after a header with these entry points holds, by coding unit
+abbrev pub slice_read : SliceKind → Size → List ℕ → List ℕ → Option (List ReadUnit)
+slice_read kind size offsets bytes = do
   rows ← substreams offsets bytes
-  read_rows kind size 0 [] [] rows
+  rows_read kind size 0 [] [] rows
+
+-- what the data of the segment of a row holds, after these units and what the row above handed on
+abbrev pub segment_read : SliceKind → Size → ℕ → List Moving → List ℕ → List ℕ → Option (List ReadCtu)
+segment_read kind size row before handed bytes =
+    row_of_bytes (segment_row_read kind size row before) (row_start kind (ctus size.w) row handed) bytes
 
 -- what is written as a slice: lawful leaves of all coding tree units, with their levels and samples
 pub record IsSlice (kind : SliceKind) (size : Size) (source : Source) (leaves : List (List Leaf)) : Type 0 where

@@ -1,5 +1,5 @@
--- Coding tree units: their items, and their reading (7.3.8.1 to 7.3.8.10, 9.3.1, 9.3.4.2.2).
-use Rattle.std.specs.Prelude.{◌≡◌, ℕ, zero, suc, ◌+◌, ◌*◌, ◌%◌, ◌^◌, ◌<◌, Bool, true, false, not, ◌&&◌, ◌⊎◌, List, [], ◌∷◌, ◌++◌, length, map, get_or, take, drop, ◌==◌, nat_le, nat_lt, if◌then◌else◌, Option, Some, None, ℤ, pos, ◌-ℤ◌, MatchBool}
+-- Coding tree units: their items, and their reading (7.3.8.1 to 7.3.8.10, 8.5.3, 9.3.1, 9.3.4.2.2).
+use Rattle.std.specs.Prelude.{◌≡◌, ℕ, zero, suc, ◌+◌, ◌*◌, ◌%◌, ◌^◌, ◌<◌, Bool, true, false, not, ◌&&◌, ◌⊎◌, List, [], ◌∷◌, ◌++◌, length, map, get_or, take, drop, ◌==◌, nat_le, nat_lt, if◌then◌else◌, Option, Some, None, ℤ, pos, ◌-ℤ◌, MatchBool, flat_map}
 use Rattle.std.specs.List.{flat_map, find, AllByRecursion}
 use Rattle.std.specs.Bool.{beq}
 use Rattle.h265_model.specs.declared.Place.{Place}
@@ -11,22 +11,18 @@ use Rattle.h265_model.specs.declared.leaf.SliceKind.TheVariants.{I, P}
 use Rattle.h265_model.specs.declared.leaf.Kind.{Kind}
 use Rattle.h265_model.specs.declared.leaf.Kind.TheVariants.{Skip, Pcm, Intra}
 use Rattle.h265_model.specs.declared.leaf.Leaf.{Leaf}
-use Rattle.h265_model.specs.Plain.{Size, Picture, coded, ctus, below, context_bin, terminate_bin, joined, ctu_x, ctu_y}
-use Rattle.h265_model.specs.SyntaxElements.{split_cu_flag, cu_skip_flag, cbf_cb, cbf_cr, cu_transquant_bypass_flag, pred_mode_flag, part_mode, intra_chroma_pred_mode, cbf_luma}
+use Rattle.h265_model.specs.Plain.{Size, Picture, coded, ctus, below, context_bin, terminate_bin, joined, ctu_x, ctu_y, leaf_side, covers, leaf_with}
+use Rattle.h265_model.specs.SyntaxElements.{split_cu_flag, cu_skip_flag, cbf_cb, cbf_cr, cu_transquant_bypass_flag, pred_mode_flag, part_mode, intra_chroma_pred_mode, cbf_luma, merge_flag, rqt_root_cbf}
 use Rattle.h265_model.specs.Engine.{Reader, ◌>>=◌, give, refuse, bin, samples}
 use Rattle.h265_model.specs.Residual.{Shape, scan_kind, cbf, residual_items, residual_read, AreLevels}
 use Rattle.h265_model.specs.Modes.{candidates, mode_items, mode_read}
 use Rattle.h265_model.specs.Predict.{is_inside, square, prediction}
 use Rattle.h265_model.specs.Bits.{digit}
 use Rattle.h265_model.specs.Code.{contexts_after}
+use Rattle.h265_model.specs.declared.moves.Vector.{Vector}
+use Rattle.h265_model.specs.Motion.{Moving, leaves, merge, predictors, has_source, vector_read}
 
 -- ---- leaves that are coded already
-
-abbrev pub leaf_side : Leaf → ℕ
-leaf_side leaf = 2 ^ leaf.log2
-
-abbrev pub covers : ℕ → ℕ → Leaf → Bool
-covers x y leaf = nat_le leaf.x x && nat_lt x (leaf.x + leaf_side leaf) && nat_le leaf.y y && nat_lt y (leaf.y + leaf_side leaf)
 
 abbrev pub leaf_at : List Leaf → ℕ → ℕ → Option Leaf
 leaf_at leaves x y = find (covers x y) leaves
@@ -248,26 +244,6 @@ IsLawfulTree size ctu leaves = IsTree size 2 (ctu_x size ctu) (ctu_y size ctu) l
 
 -- ---- reading
 
--- what is read of a coding unit: that it is a copy, or its samples, or a mode and the levels, by component
-pub data Content : Type 0 where
-  Copied : Content
-  Samples : List (List ℕ) → Content
-  Levels : ℕ → List (List ℤ) → Content
-
-pub record ReadLeaf : Type 0 where
-  pub x : ℕ
-  pub y : ℕ
-  pub log2 : ℕ
-  pub content : Content
-
-abbrev pub kind_of : Content → Kind
-kind_of Copied = Skip
-kind_of (Samples planes) = Pcm
-kind_of (Levels mode planes) = Intra mode
-
-abbrev pub leaf_of : ReadLeaf → Leaf
-leaf_of read = record { x = read.x; y = read.y; log2 = read.log2; kind = kind_of read.content }
-
 -- a bin that must have this value
 abbrev pub expect : {A : Type 0} → Place → Bool → Reader A → Reader A
 expect place value read = do
@@ -281,9 +257,53 @@ abbrev pub component_read : ℕ → ℕ → ℕ → Bool → Reader (List ℤ)
 component_read log2 mode component coded =
     if coded then residual_read (shape_of log2 mode component) else give (square (2 ^ log2) (λ x y. pos 0))
 
-abbrev pub intra_read : List Leaf → ℕ → ℕ → ℕ → Reader Content
+abbrev pub skip_read : SliceKind → List Leaf → ℕ → ℕ → Reader Bool
+skip_read I before x y = give false
+skip_read P before x y = bin (Context (skip_context before x y))
+
+abbrev pub contexts_read : Reader (List ℕ)
+contexts_read e = Some (e.contexts, e)
+
+-- what is read of a coding unit: that it is a copy, by the merge vector or by its own, or its samples, or a mode and the levels, by component
+pub data Content : Type 0 where
+  Copied : Vector → Content
+  Moved : Vector → Content
+  Samples : List (List ℕ) → Content
+  Levels : ℕ → List (List ℤ) → Content
+
+pub record ReadUnit : Type 0 where
+  pub x : ℕ
+  pub y : ℕ
+  pub log2 : ℕ
+  pub content : Content
+
+-- a moved unit counts as PCM does
+abbrev pub kind_of : Content → Kind
+kind_of (Copied v) = Skip
+kind_of (Moved v) = Pcm
+kind_of (Samples planes) = Pcm
+kind_of (Levels mode planes) = Intra mode
+
+abbrev pub vector_of : Content → Option Vector
+vector_of (Copied v) = Some v
+vector_of (Moved v) = Some v
+vector_of (Samples planes) = None
+vector_of (Levels mode planes) = None
+
+abbrev pub leaf_of : ReadUnit → Leaf
+leaf_of unit = leaf_with unit.x unit.y unit.log2 (kind_of unit.content)
+
+abbrev pub moving_of : ReadUnit → Moving
+moving_of unit = record { leaf = leaf_of unit; vector = vector_of unit.content }
+
+-- the units before, and then these
+abbrev pub units_after : List Moving → List ReadUnit → List Moving
+units_after before read = before ++ map moving_of read
+
+-- 7.3.8.10 without a split: intra_chroma_pred_mode, which chooses the luma mode, cbf_cb, cbf_cr, cbf_luma and the residuals
+abbrev pub intra_read : List Moving → ℕ → ℕ → ℕ → Reader Content
 intra_read before x y log2 = do
-  mode ← mode_read (candidates_at before x y)
+  mode ← mode_read (candidates_at (leaves before) x y)
   expect (Context intra_chroma_pred_mode) false (do
     cb ← bin (Context cbf_cb)
     cr ← bin (Context cbf_cr)
@@ -293,82 +313,94 @@ intra_read before x y log2 = do
     third ← component_read log2 mode 2 cr
     give (Levels mode (first ∷ second ∷ third ∷ [])))
 
+-- 7.3.8.7
 abbrev pub pcm_read : ℕ → Reader Content
 pcm_read n = do
   list ← samples (n + n + n)
   give (Samples (thirds n list))
 
-abbrev pub content_read : List Leaf → ℕ → ℕ → ℕ → Reader Content
+-- pcm_flag
+abbrev pub content_read : List Moving → ℕ → ℕ → ℕ → Reader Content
 content_read before x y log2 = do
   pcm ← bin Terminate
   if pcm then pcm_read (2 ^ log2 * 2 ^ log2) else intra_read before x y log2
 
-abbrev pub part_mode_read : ℕ → Reader Content → Reader Content
-part_mode_read log2 read = if log2 == 3 then expect (Context part_mode) true read else read
+-- part_mode, which an intra unit has at side 8 alone
+abbrev pub own_read : List Moving → ℕ → ℕ → ℕ → Reader Content
+own_read before x y log2 = if log2 == 3 then expect (Context part_mode) true (content_read before x y log2) else content_read before x y log2
 
-abbrev pub coded_read : SliceKind → List Leaf → ℕ → ℕ → ℕ → Reader Content
-coded_read I before x y log2 = part_mode_read log2 (content_read before x y log2)
-coded_read P before x y log2 = expect (Context pred_mode_flag) true (part_mode_read log2 (content_read before x y log2))
+-- a moved unit: part_mode at each side (PART_2Nx2N), merge_flag 0, the vector, and rqt_root_cbf 0 (7.3.8.5, 7.3.8.6)
+abbrev pub move_read : List Moving → ℕ → ℕ → ℕ → Reader Content
+move_read before x y log2 = expect (Context part_mode) true (expect (Context merge_flag) false (do
+  v ← vector_read (predictors before x y log2)
+  expect (Context rqt_root_cbf) false (give (Moved v))))
 
-abbrev pub skip_read : SliceKind → List Leaf → ℕ → ℕ → Reader Bool
-skip_read I before x y = give false
-skip_read P before x y = bin (Context (skip_context before x y))
+-- pred_mode_flag, in P slices
+abbrev pub coded_read : SliceKind → List Moving → ℕ → ℕ → ℕ → Reader Content
+coded_read I before x y log2 = own_read before x y log2
+coded_read P before x y log2 = do
+  intra ← bin (Context pred_mode_flag)
+  if intra then own_read before x y log2 else move_read before x y log2
 
--- 7.3.8.5
-unfoldable pub coding_unit_read : SliceKind → List Leaf → ℕ → ℕ → ℕ → Reader (List ReadLeaf)
-coding_unit_read kind before x y log2 = expect (Context cu_transquant_bypass_flag) true (do
-  skipped ← skip_read kind before x y
-  content ← if skipped then give Copied else coded_read kind before x y log2
-  give (record { x = x; y = y; log2 = log2; content = content } ∷ []))
+-- a copy needs its source in the coded picture
+abbrev pub is_in_picture : Size → ℕ → ℕ → ℕ → Option Vector → Bool
+is_in_picture size x y log2 None = true
+is_in_picture size x y log2 (Some v) = has_source size x y log2 v
 
-abbrev pub leaves_after : List Leaf → List ReadLeaf → List Leaf
-leaves_after before read = before ++ map leaf_of read
+abbrev pub unit_with : Size → ℕ → ℕ → ℕ → Content → Reader (List ReadUnit)
+unit_with size x y log2 content =
+    if is_in_picture size x y log2 (vector_of content) then give (record { x = x; y = y; log2 = log2; content = content } ∷ []) else refuse
 
-abbrev pub quarters_read : (ℕ → ℕ → List Leaf → Reader (List ReadLeaf)) → ℕ → ℕ → ℕ → List Leaf → Reader (List ReadLeaf)
+-- 7.3.8.5: cu_transquant_bypass_flag, cu_skip_flag, and what follows
+unfoldable pub coding_unit_read : SliceKind → Size → List Moving → ℕ → ℕ → ℕ → Reader (List ReadUnit)
+coding_unit_read kind size before x y log2 = expect (Context cu_transquant_bypass_flag) true (do
+  skipped ← skip_read kind (leaves before) x y
+  content ← if skipped then give (Copied (merge before x y log2)) else coded_read kind before x y log2
+  unit_with size x y log2 content)
+
+abbrev pub quarters_read : (ℕ → ℕ → List Moving → Reader (List ReadUnit)) → ℕ → ℕ → ℕ → List Moving → Reader (List ReadUnit)
 quarters_read go half x y before = do
   first ← go x y before
-  second ← go (x + half) y (leaves_after before first)
-  third ← go x (y + half) (leaves_after before (first ++ second))
-  fourth ← go (x + half) (y + half) (leaves_after before (first ++ second ++ third))
+  second ← go (x + half) y (units_after before first)
+  third ← go x (y + half) (units_after before (first ++ second))
+  fourth ← go (x + half) (y + half) (units_after before (first ++ second ++ third))
   give (first ++ second ++ third ++ fourth)
 
--- 7.3.8.4: the block of side 2 ^ (3 + depth) at (x, y), after these leaves
-abbrev pub tree_read : SliceKind → Size → ℕ → ℕ → ℕ → List Leaf → Reader (List ReadLeaf)
-tree_read kind size zero x y before = if is_inside size x y then coding_unit_read kind before x y 3 else give []
+-- 7.3.8.4: the block of side 2 ^ (3 + depth) at (x, y), after these units
+abbrev pub tree_read : SliceKind → Size → ℕ → ℕ → ℕ → List Moving → Reader (List ReadUnit)
+tree_read kind size zero x y before = if is_inside size x y then coding_unit_read kind size before x y 3 else give []
 tree_read kind size (suc depth) x y before =
     let half : ℕ = 2 ^ (3 + depth) in
-    let split : Reader (List ReadLeaf) = quarters_read (tree_read kind size depth) half x y before in
+    let split : Reader (List ReadUnit) = quarters_read (tree_read kind size depth) half x y before in
     if not (is_inside size x y) then give []
     else if not (is_whole size (2 * half) x y) then split
-    else (bin (Context (split_context before x y (4 + depth))) >>= λ flag. if flag then split else coding_unit_read kind before x y (4 + depth))
+    else (bin (Context (split_context (leaves before) x y (4 + depth))) >>= λ flag. if flag then split else coding_unit_read kind size before x y (4 + depth))
 
 -- 7.3.8.2
-unfoldable pub ctu_read : SliceKind → Size → List Leaf → ℕ → Reader (List ReadLeaf)
+unfoldable pub ctu_read : SliceKind → Size → List Moving → ℕ → Reader (List ReadUnit)
 ctu_read kind size before ctu = tree_read kind size 2 (ctu_x size ctu) (ctu_y size ctu) before
 
--- the leaves of a coding tree unit, and the contexts after it
+-- the units of a coding tree unit, and the contexts after it
 pub record ReadCtu : Type 0 where
-  pub leaves : List ReadLeaf
+  pub units : List ReadUnit
   pub contexts : List ℕ
 
-abbrev pub contexts_read : Reader (List ℕ)
-contexts_read e = Some (e.contexts, e)
+abbrev pub units_of : List ReadCtu → List ReadUnit
+units_of ctus = flat_map (λ (ctu : ReadCtu). ctu.units) ctus
 
--- n coding tree units from this one on, each with its end_of_slice_segment_flag
-abbrev pub ctus_read : SliceKind → Size → ℕ → ℕ → List Leaf → Reader (List ReadCtu)
-ctus_read kind size zero ctu before = give []
-ctus_read kind size (suc n) ctu before = do
-  leaves ← ctu_read kind size before ctu
+-- n coding tree units from this one on, each with its end_of_slice_segment_flag, which is 1 at the ends
+abbrev pub ctus_read : SliceKind → Size → (ℕ → Bool) → ℕ → ℕ → List Moving → Reader (List ReadCtu)
+ctus_read kind size ends zero ctu before = give []
+ctus_read kind size ends (suc n) ctu before = do
+  units ← ctu_read kind size before ctu
   contexts ← contexts_read
-  expect Terminate (is_last size ctu) (do
-    others ← ctus_read kind size n (suc ctu) (leaves_after before leaves)
-    give (record { leaves = leaves; contexts = contexts } ∷ others))
+  expect Terminate (ends ctu) (do
+    others ← ctus_read kind size ends n (suc ctu) (units_after before units)
+    give (record { units = units; contexts = contexts } ∷ others))
 
--- 7.3.8.1: a row, after the leaves of the coding tree units of the rows above
-unfoldable pub read_row : SliceKind → Size → ℕ → List (List Leaf) → Reader (List ReadCtu)
-read_row kind size row above_leaves = do
-  read ← ctus_read kind size (ctus size.w) (row * ctus size.w) (joined above_leaves)
-  if row + 1 == ctus size.h then give read else expect Terminate true (give read)
+-- the last coding tree unit of a row
+abbrev pub ends_row : Size → ℕ → Bool
+ends_row size ctu = (ctu + 1) % ctus size.w == 0
 
 -- ---- what is written and read back
 
@@ -378,18 +410,6 @@ pub record IsSource (source : Source) : Type 0 where
   pub levels_fit : (leaf : Leaf) (component : ℕ) → AreLevels (source.levels leaf component)
   pub samples_long : (leaf : Leaf) (component : ℕ) → length (source.samples leaf component) ≡ 2 ^ leaf.log2 * 2 ^ leaf.log2
   pub samples_fit : (leaf : Leaf) (component : ℕ) → AllByRecursion (λ x. x < 256) (source.samples leaf component)
-
--- what is read of a leaf
-abbrev pub content_of : Source → Leaf → Kind → Content
-content_of source leaf Skip = Copied
-content_of source leaf Pcm = Samples (source.samples leaf 0 ∷ source.samples leaf 1 ∷ source.samples leaf 2 ∷ [])
-content_of source leaf (Intra mode) = Levels mode (source.levels leaf 0 ∷ source.levels leaf 1 ∷ source.levels leaf 2 ∷ [])
-
-abbrev pub read_of : Source → Leaf → ReadLeaf
-read_of source leaf = record { x = leaf.x; y = leaf.y; log2 = leaf.log2; content = content_of source leaf leaf.kind }
-
-abbrev pub reads_of : Source → List Leaf → List ReadLeaf
-reads_of source leaves = map (read_of source) leaves
 
 -- leaves with modes
 abbrev pub AreModes : List Leaf → Type 0
@@ -408,13 +428,6 @@ AreAllowed kind leaves = AllByRecursion (λ leaf. IsAllowed kind leaf.kind) leav
 pub record AreLawfulTrees (kind : SliceKind) (size : Size) (leaves : List (List Leaf)) (total : ℕ) : Type 0 where
   pub tree : (ctu : ℕ) → ctu < total → IsLawfulTree size ctu (get_or leaves ctu [])
   pub allowed : (ctu : ℕ) → ctu < total → AreAllowed kind (get_or leaves ctu [])
-
--- what is read of n coding tree units from this one on, after these contexts
-abbrev pub values_from : SliceKind → Size → Source → List (List Leaf) → ℕ → ℕ → List ℕ → List ReadCtu
-values_from kind size source leaves ctu zero c = []
-values_from kind size source leaves ctu (suc n) c =
-    let after_ctu : List ℕ = contexts_after (ctu_items kind size source (joined (take ctu leaves)) (get_or leaves ctu []) ctu) c in
-    record { leaves = reads_of source (get_or leaves ctu []); contexts = after_ctu } ∷ values_from kind size source leaves (suc ctu) n after_ctu
 
 -- a leaf that is copied is so of a block that is the same
 abbrev pub IsCopy : Picture → Picture → Leaf → Type 0

@@ -14,7 +14,7 @@ use Rattle.h265_model.specs.Predict.{is_inside}
 use Rattle.h265_model.specs.Contexts.{row_start}
 use Rattle.h265_model.specs.Code.{code, contexts_after}
 use Rattle.h265_model.specs.Motion.{Moving, leaves, leaf_as_coded, as_coded, coded_after, predictors, move_items}
-use Rattle.h265_model.specs.MotionTree.{ends_row}
+use Rattle.h265_model.specs.Tree.{ends_row}
 use Rattle.h265_model.specs.Tree.{Source, split_context, skip_context, coding_unit_items, is_whole, is_last}
 
 -- ---- coding units

@@ -15,7 +15,7 @@ use Rattle.h265_model.specs.Stream.{order_count}
 use Rattle.h265_model.specs.Decode.{Decoded, decoded_picture}
 use Rattle.h265_model.specs.Hash.{hash_header, hash_of_planes, hash_bits}
 use Rattle.h265_model.specs.ExtraStream.{hash_piece, extra_piece}
-use Rattle.h265_model.specs.DecodeAll.{Stand, hash_step, step, read_units}
+use Rattle.h265_model.specs.Decode.{Stand, hash_step, step, read_units}
 use Rattle.h265_laws.proofs.EndsLaw.{ends_append, ends_well}
 use Rattle.h265_laws.proofs.HeadLaws.{read_head-head_bits}
 use Rattle.h265_laws.proofs.ParamLaws.{in_limits}

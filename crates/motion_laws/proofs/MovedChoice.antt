@@ -15,7 +15,7 @@ use Rattle.h265_model.specs.Predict.{is_inside}
 use Rattle.h265_model.specs.Tree.{is_whole, samples_in}
 use Rattle.h265_model.specs.Choice.{intra_cost, same, modes_of}
 use Rattle.h265_model.specs.Motion.{Moving, merge, has_source, leaf_as_coded, as_coded, coded_after}
-use Rattle.h265_model.specs.MotionRebuild.{moved_samples}
+use Rattle.h265_model.specs.Rebuild.{moved_samples}
 use Rattle.h265_model.specs.MotionChoice.{MovePlan, cheaper, cheapest, best_of, unit_at, one_unit, vectors_of, tried_vectors, is_copy_by, skip_plans, move_plans, unit_plan, no_units, split_plan, plan, moved_choice, moved_choices}
 use Rattle.h265_model.specs.Walks.{coded_first}
 use Rattle.h265_model.proofs.ListParts.{all_append}

@@ -17,11 +17,11 @@ use Rattle.h265_model.specs.Tree.{Source, IsSource}
 use Rattle.h265_model.specs.Stream.{slice_kind, nal_header, but_last, slice_piece}
 use Rattle.h265_model.specs.Decode.{Decoded, ok_of}
 use Rattle.h265_model.specs.Motion.{Moving}
-use Rattle.h265_model.specs.MotionTree.{ReadUnit, ReadCtu, units_of, units_after, moving_of}
-use Rattle.h265_model.specs.MotionSlice.{slice_row_read, row_of_bytes, handed_on, rows_read, slice_read}
-use Rattle.h265_model.specs.MotionRebuild.{rebuild}
+use Rattle.h265_model.specs.Tree.{ReadUnit, ReadCtu, units_of, units_after, moving_of}
+use Rattle.h265_model.specs.Slice.{slice_row_read, row_of_bytes, handed_on, rows_read, slice_read}
+use Rattle.h265_model.specs.Rebuild.{rebuild}
 use Rattle.h265_model.specs.Walks.{move_unit, coded_first, contexts_of, code_of}
-use Rattle.h265_model.specs.DecodeAll.{Stand, referred, is_next, whole, slice_step, step}
+use Rattle.h265_model.specs.Decode.{Stand, referred, is_next, whole, slice_step, step}
 use Rattle.h265_model.proofs.ListParts.{drop_front}
 use Rattle.h265_laws.proofs.EndsLaw.{Ends, code_ends, ends_some, ends_append, ends_well, escape_append, escape_rows, rows_end}
 use Rattle.h265_laws.proofs.PictureLaw.{IsFit}

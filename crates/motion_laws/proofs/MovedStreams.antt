@@ -18,14 +18,15 @@ use Rattle.h265_model.specs.Bits.{◌>>-◌}
 use Rattle.h265_model.specs.Settings.{Settings}
 use Rattle.h265_model.specs.Raster.{Raster, IsRaster, planes, stored_picture}
 use Rattle.h265_model.specs.NalUnits.{NalUnit, nal_unit_bytes, stream_bytes}
-use Rattle.h265_model.specs.Tree.{Source, leaf_side, is_skipped}
+use Rattle.h265_model.specs.Tree.{Source, is_skipped}
+use Rattle.h265_model.specs.Plain.{leaf_side}
 use Rattle.h265_model.specs.Stream.{is_idr, order_count, slice_kind, reference}
 use Rattle.h265_model.specs.Decode.{Decoded}
 use Rattle.h265_model.specs.Motion.{Moving, leaf_as_coded, as_coded, merge, moved, reaches, has_source, still, still_kind}
 use Rattle.h265_model.specs.MotionChoice.{moved_choices}
-use Rattle.h265_model.specs.MotionRebuild.{moved_samples, rebuild}
+use Rattle.h265_model.specs.Rebuild.{moved_samples, rebuild}
 use Rattle.h265_model.specs.ExtraStream.{moved_units, extra_piece}
-use Rattle.h265_model.specs.DecodeAll.{Stand, read_units}
+use Rattle.h265_model.specs.Decode.{Stand, read_units}
 use Rattle.h265_model.proofs.Squares.{same_places}
 use Rattle.h265_laws.proofs.ChoiceLaw.{IsFair}
 use Rattle.h265_laws.proofs.ParamLaws.{in_limits}

@@ -8,7 +8,7 @@ use Rattle.h265_model.specs.Raster.{Raster, IsRaster}
 use Rattle.h265_model.specs.Settings.{Settings, is_size}
 use Rattle.h265_model.specs.MotionChoice.{moved_choices}
 use Rattle.h265_model.specs.ExtraStream.{extra_stream}
-use Rattle.h265_model.specs.DecodeAll.{decode_all}
+use Rattle.h265_model.specs.Decode.{decode}
 use Rattle.unit_laws.specs.Laws.{AreLawfulUnits, AreCopied}
 
 -- the units that are chosen after a previous picture: a list for each coding tree unit, lawful, with sources in the coded picture and short vectors,
@@ -23,4 +23,4 @@ EachMovedChoiceIsLawful =
 abbrev pub EachMovedStreamIsDecoded : Type 0
 EachMovedStreamIsDecoded =
     (settings : Settings) (pictures : List Raster) → IsTrue (is_size settings.size) → AllByRecursion (IsRaster settings.size) pictures →
-    decode_all (extra_stream settings Moves pictures) ≡ Ok (settings.size, pictures)
+    decode (extra_stream settings Moves pictures) ≡ Ok (settings.size, pictures)

@@ -8,7 +8,8 @@ use Rattle.std.proofs.lemmas.List.Folds.{find-append}
 use Rattle.std.proofs.lemmas.Nat.{mul-le}
 use Rattle.h265_model.specs.declared.leaf.Leaf.{Leaf}
 use Rattle.h265_model.specs.Plain.{coded}
-use Rattle.h265_model.specs.Tree.{covers, leaf_at}
+use Rattle.h265_model.specs.Tree.{leaf_at}
+use Rattle.h265_model.specs.Plain.{covers}
 use Rattle.pu_code.specs.declared.cell.Cell.{Cell}
 use Rattle.pu_code.specs.Cells.{Cells, StandsFor, IsUnit, IsFilled, is_within, blocks, cell_of, cell_at, kept_of}
 

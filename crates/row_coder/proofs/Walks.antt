@@ -12,7 +12,8 @@ use Rattle.h265_model.specs.declared.leaf.Leaf.{Leaf}
 use Rattle.h265_model.specs.declared.leaf.SliceKind.{SliceKind}
 use Rattle.h265_model.specs.Plain.{Size, Picture, coded, context_bin, ctus, ctu_x, ctu_y}
 use Rattle.h265_model.proofs.ListParts.{all_append}
-use Rattle.h265_model.specs.Tree.{Source, leaf_at, left_of, above, covers, split_context, skip_context, candidates_at, content_items, coding_unit_items, source_of, leaf_side, is_whole, IsMode, IsLawfulTree, IsTree, IsCodingUnit, AreQuarters, ctu_items, Walk, walk_on, and_walk, quarters, coding_unit_walk, no_walk, is_leaf, tree_walk}
+use Rattle.h265_model.specs.Tree.{Source, leaf_at, left_of, above, split_context, skip_context, candidates_at, content_items, coding_unit_items, source_of, is_whole, IsMode, IsLawfulTree, IsTree, IsCodingUnit, AreQuarters, ctu_items, Walk, walk_on, and_walk, quarters, coding_unit_walk, no_walk, is_leaf, tree_walk}
+use Rattle.h265_model.specs.Plain.{covers, leaf_side}
 use Rattle.h265_model.specs.Predict.{is_inside}
 use Rattle.pu_code.specs.Cells.{IsUnit}
 use Rattle.h265_laws.proofs.Coverage.{inside_parts}

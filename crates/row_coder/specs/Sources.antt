@@ -4,7 +4,8 @@ use Rattle.h265_model.specs.declared.leaf.Kind.{Kind}
 use Rattle.h265_model.specs.declared.leaf.Kind.TheVariants.{Skip, Pcm, Intra}
 use Rattle.h265_model.specs.declared.leaf.Leaf.{Leaf}
 use Rattle.h265_model.specs.Plain.{Size, Picture, coded}
-use Rattle.h265_model.specs.Tree.{Source, leaf_side, is_whole, samples_in, levels_in}
+use Rattle.h265_model.specs.Tree.{Source, is_whole, samples_in, levels_in}
+use Rattle.h265_model.specs.Plain.{leaf_side}
 use Rattle.bin_items.specs.Square.{area}
 
 -- the unit begins at multiples of its side and lies wholly in the coded picture

@@ -23,7 +23,7 @@ use Rattle.recorder_model.specs.Headline.{IsPlayed, IsRecorded, IsCutShort, repo
 use Rattle.recorder_model.specs.Files.{Files, file_at, IsPrefix, WhereTold}
 use Rattle.recorder_model.specs.FileLaws.{told_on, file_at-insert}
 use Rattle.recorder_laws.proofs.PlayLaws.{each_picture_is_raster}
-use Rattle.h265_laws.proofs.StreamLaw.{each_stream_is_decoded}
+use Rattle.stream_laws.proofs.PlainStreams.{each_stream_is_decoded}
 use Rattle.edges.specs.Shelf.{Creates}
 use Rattle.paint_script.specs.Spellable.{IsSpellable, AreSpellable}
 use Rattle.desk_state.specs.Standing.{most_entries}
@@ -180,7 +180,7 @@ module _ (words : RecordWords) (scripts : List (List Line)) (order : List Entry)
       let whole : first_pieces words.settings ps (all_cuts scripts + 1) ≡ stream_of words.settings ps = whole_is words.settings ps (all_cuts scripts) many in
       record {
         stored = s.stored ∙ ap (insert x words.out) whole;
-        decodes = each_stream_is_decoded words.settings ps within.0 within.1
+        decodes = each_stream_is_decoded words.settings ps within.0
             (each_picture_is_raster words.settings.size (lines_of scripts order) (order_has_colours scripts order spelled));
         counted = s.counted ∙ ap length whole;
       }

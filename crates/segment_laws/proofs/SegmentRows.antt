@@ -18,11 +18,11 @@ use Rattle.h265_model.specs.Tree.{Source}
 use Rattle.h265_model.specs.Motion.{Moving}
 use Rattle.h265_model.specs.Stream.{slice_kind, nal_header}
 use Rattle.h265_model.specs.Decode.{Decoded, decoded_picture, ok_of}
-use Rattle.h265_model.specs.MotionTree.{ReadUnit, ReadCtu, units_of, moving_of}
-use Rattle.h265_model.specs.MotionSlice.{segment_row_read, row_of_bytes, segment_read, handed_on}
-use Rattle.h265_model.specs.MotionRebuild.{rebuild}
+use Rattle.h265_model.specs.Tree.{ReadUnit, ReadCtu, units_of, moving_of}
+use Rattle.h265_model.specs.Slice.{segment_row_read, row_of_bytes, segment_read, handed_on}
+use Rattle.h265_model.specs.Rebuild.{rebuild}
 use Rattle.h265_model.specs.Walks.{move_unit, coded_first, contexts_of, segment_code_of}
-use Rattle.h265_model.specs.DecodeAll.{Begun, Stand, referred, is_next, before_segment, next_row, after_segment, segment_step, step, read_units}
+use Rattle.h265_model.specs.Decode.{Begun, Stand, referred, is_next, before_segment, next_row, after_segment, segment_step, step, read_units}
 use Rattle.h265_model.proofs.ListParts.{drop_front}
 use Rattle.h265_laws.proofs.SliceLaw.{rows_fit}
 use Rattle.stream_laws.proofs.OldStreams.{now_whole}

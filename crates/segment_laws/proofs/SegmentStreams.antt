@@ -17,13 +17,14 @@ use Rattle.h265_model.specs.Fields.{fields_bits}
 use Rattle.h265_model.specs.SliceHead.{head_bits, head_fields, dependent_fields, segment_bits}
 use Rattle.h265_model.specs.Stream.{is_idr, order_count, slice_kind, nal_header}
 use Rattle.h265_model.specs.Decode.{Decoded}
-use Rattle.h265_model.specs.Tree.{Source, reads_of}
+use Rattle.h265_model.specs.Tree.{Source}
+use Rattle.h265_laws.proofs.LeafReading.{reads_of}
 use Rattle.h265_model.specs.Motion.{still}
-use Rattle.h265_model.specs.Rebuild as Old
-use Rattle.h265_model.specs.MotionRebuild.{rebuild}
+use Rattle.h265_laws.proofs.LeafDecoding as Old
+use Rattle.h265_model.specs.Rebuild.{rebuild}
 use Rattle.h265_model.specs.Walks.{still_unit, move_unit, segment_code_of}
 use Rattle.h265_model.specs.ExtraStream.{segment_piece, extra_piece}
-use Rattle.h265_model.specs.DecodeAll.{Stand, read_units}
+use Rattle.h265_model.specs.Decode.{Stand, read_units}
 use Rattle.h265_laws.proofs.EndsLaw.{Ends, code_ends, ends_append, ends_well, escape_append, aligned_bits_end}
 use Rattle.h265_laws.proofs.ParamLaws.{in_limits}
 use Rattle.h265_laws.proofs.PictureLaw.{IsFit, size_fits, picture_is, cropped, each_picture_is_rebuilt}

@@ -6,7 +6,7 @@ use Rattle.h265_model.specs.Plain.{AreBytes, coded}
 use Rattle.h265_model.specs.Raster.{Raster, IsRaster}
 use Rattle.h265_model.specs.Settings.{Settings, is_size}
 use Rattle.h265_model.specs.ExtraStream.{extra_stream}
-use Rattle.h265_model.specs.DecodeAll.{decode_all}
+use Rattle.h265_model.specs.Decode.{decode}
 use Rattle.h265_model.specs.Bits.{bytes}
 use Rattle.h265_model.specs.SliceHead.{segment_bits, read_segment_head}
 
@@ -33,4 +33,4 @@ EachSegmentHeadIsSpelled =
 abbrev pub EachSegmentedStreamIsDecoded : Type 0
 EachSegmentedStreamIsDecoded =
     (settings : Settings) (pictures : List Raster) → IsTrue (is_size settings.size) → 32 < coded settings.size.w → AllByRecursion (IsRaster settings.size) pictures →
-    decode_all (extra_stream settings Segments pictures) ≡ Ok (settings.size, pictures)
+    decode (extra_stream settings Segments pictures) ≡ Ok (settings.size, pictures)

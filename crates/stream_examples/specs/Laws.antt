@@ -4,7 +4,7 @@ use Rattle.h265_model.specs.declared.rgb.Rgb.{Rgb}
 use Rattle.h265_model.specs.Plain.{Size}
 use Rattle.h265_model.specs.Raster.{Raster}
 use Rattle.h265_model.specs.NalUnits.{escape}
-use Rattle.h265_model.specs.DecodeAll.{decode_all}
+use Rattle.h265_model.specs.Decode.{decode}
 
 abbrev pub size_of : ℕ → ℕ → Size
 size_of w h = record { w = w; h = h }
@@ -27,4 +27,4 @@ piece_of ending = sets_32x32 ++ (0x00 ∷ 0x00 ∷ 0x00 ∷ 0x01 ∷ 0x28 ∷ 0x
 
 -- its stream is decoded to a black picture of 32x32
 abbrev pub BlackIsRead : Type 0
-BlackIsRead = decode_all (piece_of (0xFE ∷ 0x80 ∷ [])) ≡ Ok (size_of 32 32, black 1024 ∷ [])
+BlackIsRead = decode (piece_of (0xFE ∷ 0x80 ∷ [])) ≡ Ok (size_of 32 32, black 1024 ∷ [])

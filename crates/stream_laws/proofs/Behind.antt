@@ -11,7 +11,7 @@ use Rattle.h265_model.specs.Raster.{Raster, blank, planes, stored_picture}
 use Rattle.h265_model.specs.Tree.{IsCopy}
 use Rattle.h265_model.specs.Stream.{is_idr, order_count}
 use Rattle.h265_model.specs.Decode.{Decoded, decoded_picture}
-use Rattle.h265_model.specs.DecodeAll.{referred, is_next}
+use Rattle.h265_model.specs.Decode.{referred, is_next}
 use Rattle.h265_laws.proofs.ChoiceLaw.{copies_are, no_copies}
 use Rattle.h265_laws.proofs.CoverLaw.{joined_cover}
 use Rattle.h265_laws.proofs.Coverage.{CoversBlock}

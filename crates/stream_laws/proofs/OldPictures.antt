@@ -3,15 +3,15 @@ use Rattle.std.proofs.Common.{◌≡◌, refl, ◌∙◌, ap, ℕ, ◌+◌, ◌*
 use Rattle.std.specs.Prelude.{map, get_or}
 use Rattle.std.specs.List.{flat_map}
 use Rattle.h265_model.specs.declared.leaf.Leaf.{Leaf}
-use Rattle.h265_model.specs.Plain.{Size, Picture, leaf_with, below, place_values}
+use Rattle.h265_model.specs.Plain.{covers, Size, Picture, leaf_with, below, place_values}
 use Rattle.h265_model.specs.Raster.{planes, blank}
-use Rattle.h265_model.specs.Tree as Tree
-use Rattle.h265_model.specs.Tree.{leaf_side, samples_in}
-use Rattle.h265_model.specs.Rebuild as Rebuild
-use Rattle.h265_model.specs.Rebuild.{with_block}
+use Rattle.h265_laws.proofs.LeafReading as Tree
+use Rattle.h265_model.specs.Tree.{samples_in}
+use Rattle.h265_model.specs.Plain.{leaf_side}
+use Rattle.h265_laws.proofs.LeafDecoding as Rebuild
 use Rattle.h265_model.specs.Motion.{no_motion}
-use Rattle.h265_model.specs.MotionTree.{kind_of}
-use Rattle.h265_model.specs.MotionRebuild.{moved_samples, block_of, with_unit, with_units, rebuild}
+use Rattle.h265_model.specs.Tree.{kind_of}
+use Rattle.h265_model.specs.Rebuild.{moved_samples, block_of, with_unit, with_units, rebuild}
 use Rattle.stream_laws.proofs.OldTree.{content_as, unit_as, units_as}
 
 -- ---- samples
@@ -42,7 +42,7 @@ block_same size prev now x y log2 (Tree.Samples planes) component = refl
 block_same size prev now x y log2 (Tree.Levels mode planes) component = refl
 
 unit_same : (size : Size) (prev now : Picture) (read : Tree.ReadLeaf) → with_unit size prev now (unit_as read) ≡ Rebuild.with_leaf size prev now read
-unit_same size prev now read = λ i component x y. cond (Tree.covers x y (Tree.leaf_of read)) (get_or (block_same size prev now read.x read.y read.log2 read.content component i) ((y - read.y) * leaf_side (Tree.leaf_of read) + (x - read.x)) 0) (now component x y)
+unit_same size prev now read = λ i component x y. cond (covers x y (Tree.leaf_of read)) (get_or (block_same size prev now read.x read.y read.log2 read.content component i) ((y - read.y) * leaf_side (Tree.leaf_of read) + (x - read.x)) 0) (now component x y)
 
 units_same : (size : Size) (prev now : Picture) (reads : List Tree.ReadLeaf) → with_units size prev now (units_as reads) ≡ Rebuild.with_leaves size prev now reads
 units_same size prev now [] = refl

@@ -9,13 +9,13 @@ use Rattle.h265_model.specs.Plain.{Size, ctus, joined}
 use Rattle.h265_model.specs.Bits.{◌>>=◌ as and_then, bits}
 use Rattle.h265_model.specs.Engine.{Engine, start, is_done, Reader, give}
 use Rattle.h265_model.specs.Contexts.{row_start}
-use Rattle.h265_model.specs.Tree as Tree
+use Rattle.h265_laws.proofs.LeafReading as Tree
 use Rattle.h265_model.specs.Tree.{expect, is_last, contexts_read}
-use Rattle.h265_model.specs.Slice as Slice
+use Rattle.h265_laws.proofs.LeafDecoding as Slice
 use Rattle.h265_model.specs.Slice.{substreams}
 use Rattle.h265_model.specs.Motion.{Moving, leaves}
-use Rattle.h265_model.specs.MotionTree.{ReadUnit, ReadCtu, units_of, units_after, ctus_read}
-use Rattle.h265_model.specs.MotionSlice.{subset_end, slice_row_read, handed_on, row_of_bytes, rows_read, slice_read}
+use Rattle.h265_model.specs.Tree.{ReadUnit, ReadCtu, units_of, units_after, ctus_read}
+use Rattle.h265_model.specs.Slice.{subset_end, slice_row_read, handed_on, row_of_bytes, rows_read, slice_read}
 use Rattle.stream_laws.proofs.OldTree.{Refines, refines_same, refines_give, refines_bind, refines_expect, refines_cond, units_as, AreStill, after_as, after_still, as-append, ctu_refines}
 
 abbrev pub ctu_as : Tree.ReadCtu → ReadCtu

@@ -1,26 +1,25 @@
 -- A stream without moves, segments and hashes that was decoded before is decoded in the same way.
 use Rattle.std.proofs.Common.{◌≡◌, refl, sym, ◌∙◌, ap, ℕ, ◌+◌, ◌-◌, ◌/◌, ◌%◌, List, [], ◌∷◌, ◌++◌, Bool, true, false, cond}
-use Rattle.std.specs.Prelude.{Option, Some, None, Result, Ok, Err, ◌==◌, bytes_eq, take, drop, length, nat_lt}
+use Rattle.std.specs.Prelude.{Option, Some, None, Result, Ok, Err, ◌==◌, bytes_eq, drop, length, nat_lt}
 use Rattle.std.proofs.lemmas.Bool.{cond-true}
 use Rattle.h265_model.specs.Plain.{Size, ctus, coded}
 use Rattle.h265_model.specs.Bits.{◌>>=◌ as and_then, bits, read_alignment}
 use Rattle.h265_model.specs.Bits.{◌>>-◌}
-use Rattle.h265_model.specs.Raster.{Raster, crop}
 use Rattle.h265_model.specs.NalUnits.{NalUnit}
 use Rattle.h265_model.specs.Fields.{Field, U, fixed, golomb, read_field, read_fields, read_trailing, or_number}
 use Rattle.h265_model.specs.ParamSets.{BadParam, in_set, set_bits, read_fixed_set, read_sps, read_params, vps_fields, pps_front, pps_back, pps_fields, segments_flag, read_pps, read_sets}
 use Rattle.h265_model.specs.SliceHead.{Head, head_front, head_middle, read_poc, read_entries, read_head}
 use Rattle.h265_model.specs.Stream.{nal_header, slice_kind}
-use Rattle.h265_model.specs.Slice.{read_data}
-use Rattle.h265_model.specs.Tree as Tree
-use Rattle.h265_model.specs.Decode.{Decoded, decoded_picture, reference_of, ok_of, read_slice, read_idr, follows, read_trail, read_picture, or_unit, read_pictures, units_or_number, size_or_number, decode}
-use Rattle.h265_model.specs.MotionTree.{ReadUnit}
-use Rattle.h265_model.specs.MotionSlice.{slice_read}
-use Rattle.h265_model.specs.MotionRebuild.{rebuild}
-use Rattle.h265_model.specs.Rebuild as Rebuild
+use Rattle.h265_laws.proofs.LeafDecoding.{read_data}
+use Rattle.h265_laws.proofs.LeafReading as Tree
+use Rattle.h265_model.specs.Decode.{Decoded, ok_of}
+use Rattle.h265_laws.proofs.LeafDecoding.{reference_of, read_slice, read_idr, follows, read_trail, read_picture}
+use Rattle.h265_model.specs.Tree.{ReadUnit}
+use Rattle.h265_model.specs.Slice.{slice_read}
+use Rattle.h265_model.specs.Rebuild.{rebuild}
+use Rattle.h265_laws.proofs.LeafDecoding as Rebuild
 use Rattle.h265_model.specs.Hash.{hash_header}
-use Rattle.h265_model.specs.DecodeAll.{Begun, Stand, at_first, at_end, is_next, whole, slice_step, picture_step, hash_step, step, shown, at_number, read_units, sets_or_number, decode_all}
-use Rattle.stream_laws.specs.Laws.{EachOldStreamIsDecoded}
+use Rattle.h265_model.specs.Decode.{Stand, is_next, whole, slice_step, picture_step, hash_step, step}
 use Rattle.stream_laws.proofs.OldTree.{units_as}
 use Rattle.stream_laws.proofs.OldRows.{all_of, slice_same}
 use Rattle.stream_laws.proofs.OldPictures.{rebuild_same}
@@ -159,28 +158,6 @@ step_same size stand unit now h = go (bytes_eq unit.header (nal_header true)) (b
     go false true g = trail stand.last refl g
     go false false g = absurd (cc)
 
-abbrev Units : Size → List NalUnit → Type 0
-Units size us = (n : ℕ) (stand : Stand) (ps : List Raster) → stand.begun ≡ None → read_pictures size n stand.last us ≡ Ok ps → read_units size false n stand us ≡ Ok ps
-
-units_same : (size : Size) (us : List NalUnit) → Units size us
-unfolding read_pictures read_units
-units_same size [] n stand ps q h = ap (λ (b : Option Begun). at_end n b) q ∙ h
-units_same size (unit ∷ us) n stand ps q h = go (units_same size us) (read_picture size stand.last unit) refl h
-  where
-    others_of : Units size us → (now : Decoded) (r : Result (List Raster) ℕ) → read_pictures size (n + 1) (Some now) us ≡ r
-        → (r >>- λ others. Ok (crop size (decoded_picture size now) ∷ others)) ≡ Ok ps
-        → (read_units size false (n + 1) (now_whole now) us >>- λ others. Ok (shown size (now_whole now) ++ others)) ≡ Ok ps
-    others_of later now (Err e) r g = absurd (cc)
-    others_of later now (Ok others) r g = ap (λ (x : Result (List Raster) ℕ). x >>- λ os. Ok (shown size (now_whole now) ++ os)) (later (n + 1) (now_whole now) others refl r) ∙ g
-
-    go : Units size us → (o : Option Decoded) → read_picture size stand.last unit ≡ o
-        → (or_unit n o >>- λ now. read_pictures size (n + 1) (Some now) us >>- λ others. Ok (crop size (decoded_picture size now) ∷ others)) ≡ Ok ps
-        → (at_number n (step size false stand unit) >>- λ after. read_units size false (n + 1) after us >>- λ others. Ok (shown size after ++ others)) ≡ Ok ps
-    go later None o g = absurd (cc)
-    go later (Some now) o g =
-        ap (λ (x : Option Stand). at_number n x >>- λ after. read_units size false (n + 1) after us >>- λ others. Ok (shown size after ++ others)) (step_same size stand unit now o)
-        ∙ others_of later now (read_pictures size (n + 1) (Some now) us) refl g
-
 -- ---- parameter sets
 
 fields-append : (a b : List Field) (bs : List Bool) → read_fields (a ++ b) bs ≡ (read_fields a bs >>- read_fields b)
@@ -268,53 +245,3 @@ sets_same (vps ∷ sps ∷ pps ∷ []) size h = first (read_fixed_set 0x40 vps_f
 sets_same (a ∷ b ∷ c ∷ d ∷ us) size h = absurd (cc)
 
 -- ---- streams
-
-abbrev size_found : Result Size BadParam → Result Size ℕ
-size_found (Ok found) = Ok found
-size_found (Err bad) = Err bad.set
-
-abbrev sets_found : Result (Size × Bool) BadParam → Result (Size × Bool) ℕ
-sets_found (Ok sets) = Ok sets
-sets_found (Err bad) = Err bad.set
-
-numbered_same : (us : List NalUnit) (size : Size) → size_or_number us ≡ Ok size → sets_or_number us ≡ Ok (size, false)
-numbered_same us size h = go (nat_lt (length us) 3) h
-  where
-    named : (r : Result Size BadParam) → read_params (take 3 us) ≡ r → size_found r ≡ Ok size
-        → (sets_found (read_sets (take 3 us))) ≡ Ok (size, false)
-    named (Err bad) q g = absurd (cc)
-    named (Ok found) q g =
-        ap sets_found (sets_same (take 3 us) found q) ∙ ap turned g
-      where
-        turned : Result Size ℕ → Result (Size × Bool) ℕ
-        turned (Ok s) = Ok (s, false)
-        turned (Err e) = Err e
-
-    go : (b : Bool) → cond b (Err (length us)) (size_found (read_params (take 3 us))) ≡ Ok size
-        → cond b (Err (length us)) (sets_found (read_sets (take 3 us))) ≡ Ok (size, false)
-    go true g = absurd (cc)
-    go false g = named (read_params (take 3 us)) refl g
-
-abbrev told : Size → List Raster → Result (Size × List Raster) ℕ
-told size pictures = Ok (size, pictures)
-
-pub streams_are_decoded : EachOldStreamIsDecoded
-unfolding decode decode_all
-streams_are_decoded stream size pictures h = listed (units_or_number stream) h
-  where
-    pictured : (us : List NalUnit) (found : Size) (r : Result (List Raster) ℕ) → read_pictures found 3 None (drop 3 us) ≡ r → (r >>- told found) ≡ Ok (size, pictures)
-        → (read_units found false 3 at_first (drop 3 us) >>- told found) ≡ Ok (size, pictures)
-    pictured us found (Err e) q g = absurd (cc)
-    pictured us found (Ok ps) q g = ap (λ (r : Result (List Raster) ℕ). r >>- told found) (units_same found (drop 3 us) 3 at_first ps refl q) ∙ g
-
-    sized : (us : List NalUnit) (r : Result Size ℕ) → size_or_number us ≡ r → (r >>- λ found. read_pictures found 3 None (drop 3 us) >>- told found) ≡ Ok (size, pictures)
-        → (sets_or_number us >>- λ sets. read_units sets.0 sets.1 3 at_first (drop 3 us) >>- told sets.0) ≡ Ok (size, pictures)
-    sized us (Err e) q g = absurd (cc)
-    sized us (Ok found) q g =
-        ap (λ (r : Result (Size × Bool) ℕ). r >>- λ sets. read_units sets.0 sets.1 3 at_first (drop 3 us) >>- told sets.0) (numbered_same us found q)
-        ∙ pictured us found (read_pictures found 3 None (drop 3 us)) refl g
-
-    listed : (r : Result (List NalUnit) ℕ) → (r >>- λ us. size_or_number us >>- λ found. read_pictures found 3 None (drop 3 us) >>- told found) ≡ Ok (size, pictures)
-        → (r >>- λ us. sets_or_number us >>- λ sets. read_units sets.0 sets.1 3 at_first (drop 3 us) >>- told sets.0) ≡ Ok (size, pictures)
-    listed (Err e) g = absurd (cc)
-    listed (Ok us) g = sized us (size_or_number us) refl g

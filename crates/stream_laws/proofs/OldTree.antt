@@ -15,10 +15,12 @@ use Rattle.h265_model.specs.Bits.{◌>>=◌ as and_then}
 use Rattle.h265_model.specs.Engine.{Engine, Reader, ◌>>=◌, give, refuse, bin, samples}
 use Rattle.h265_model.specs.Predict.{is_inside}
 use Rattle.h265_model.specs.Modes.{mode_read}
-use Rattle.h265_model.specs.Tree as Tree
-use Rattle.h265_model.specs.Tree.{covers, split_context, candidates_at, is_whole, expect, thirds, component_read, skip_read, part_mode_read}
+use Rattle.h265_laws.proofs.LeafReading as Tree
+use Rattle.h265_model.specs.Tree.{split_context, candidates_at, is_whole, expect, thirds, component_read, skip_read}
+use Rattle.h265_model.specs.Plain.{covers}
+use Rattle.h265_laws.proofs.LeafReading.{part_mode_read}
 use Rattle.h265_model.specs.Motion.{Moving, leaves, no_motion, vector_in, vector_before, first_vector, or_none, merge, has_source, reaches, a0, a1, b0, b1, b2}
-use Rattle.h265_model.specs.MotionTree.{Content, Copied, Samples, Levels, ReadUnit, kind_of, vector_of, moving_of, units_after, intra_read, pcm_read, content_read, own_read, move_read, coded_read, is_in_picture, unit_with, coding_unit_read, quarters_read, tree_read, ctu_read}
+use Rattle.h265_model.specs.Tree.{Content, Copied, Samples, Levels, ReadUnit, kind_of, vector_of, moving_of, units_after, intra_read, pcm_read, content_read, own_read, move_read, coded_read, is_in_picture, unit_with, coding_unit_read, quarters_read, tree_read, ctu_read}
 
 -- ---- readers of which one reads all that the other does
 

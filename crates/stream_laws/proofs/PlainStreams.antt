@@ -1,21 +1,23 @@
 -- The stream of pictures alone is decoded to them.
-use Rattle.std.proofs.Common.{refl, sym, ◌∙◌, ap, ℕ, ◌+◌, ◌%◌, ◌<◌, List, [], ◌∷◌, false, append-nil}
-use Rattle.std.specs.Prelude.{Option, Ok}
+use Rattle.std.proofs.Common.{◌≡◌, refl, sym, ◌∙◌, ap, ℕ, ◌+◌, ◌%◌, ◌<◌, List, [], ◌∷◌, false, append-nil}
+use Rattle.std.specs.Prelude.{Option, Ok, IsTrue}
+use Rattle.std.specs.List.{AllByRecursion}
 use Rattle.h265_model.specs.declared.extra.Extra.TheVariants.{Plain}
 use Rattle.h265_model.specs.Plain.{Size}
 use Rattle.h265_model.specs.Bits.{◌>>-◌}
-use Rattle.h265_model.specs.Settings.{Settings}
+use Rattle.h265_model.specs.Settings.{Settings, is_size}
 use Rattle.h265_model.specs.Raster.{Raster, IsRaster}
 use Rattle.h265_model.specs.NalUnits.{NalUnit, nal_unit_bytes, stream_bytes}
-use Rattle.h265_model.specs.Stream.{order_count}
-use Rattle.h265_model.specs.Decode.{Decoded}
+use Rattle.h265_model.specs.Stream.{order_count, stream_of}
+use Rattle.h265_model.specs.Decode.{Decoded, decode}
 use Rattle.h265_model.specs.ExtraStream.{extra_piece}
-use Rattle.h265_model.specs.DecodeAll.{Stand, read_units}
+use Rattle.h265_model.specs.Decode.{Stand, read_units}
 use Rattle.h265_laws.proofs.HeadLaws.{read_head-head_bits}
 use Rattle.h265_laws.proofs.ParamLaws.{in_limits}
 use Rattle.h265_laws.proofs.PictureLaw.{IsFit, size_fits, cropped}
 use Rattle.h265_laws.proofs.StreamLaw.{picture_unit, IsFollowing, decoded_as, picture_is_read, piece_is_unit, unit_is}
 use Rattle.stream_laws.specs.Laws.{EachPlainStreamIsDecoded}
+use Rattle.stream_laws.proofs.Ties.{streams_are_plain}
 use Rattle.stream_laws.proofs.SetsLaw.{sets_are_read}
 use Rattle.stream_laws.proofs.OldStreams.{now_whole, step_same}
 use Rattle.stream_laws.proofs.StreamForm.{one_step, ReadsOn, AreRead, stream_is_decoded}
@@ -53,3 +55,8 @@ plain_streams_are_decoded settings rasters size_is are =
     stream_is_decoded settings Plain (plain_units settings)
     (plain_are_read settings (size_fits settings.size size_is) (in_limits settings.size size_is).w_low)
     (sets_are_read settings.size false size_is (λ e. absurd (cc))) rasters are
+
+-- the same of the stream in the words of plain pictures
+pub each_stream_is_decoded : (settings : Settings) (rasters : List Raster) → IsTrue (is_size settings.size) → AllByRecursion (IsRaster settings.size) rasters
+    → decode (stream_of settings rasters) ≡ Ok (settings.size, rasters)
+each_stream_is_decoded settings rasters size_is are = ap decode (sym (streams_are_plain settings rasters)) ∙ plain_streams_are_decoded settings rasters size_is are

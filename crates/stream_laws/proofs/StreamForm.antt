@@ -14,7 +14,7 @@ use Rattle.h265_model.specs.ParamSets.{vps_fields, sps_fields, pps_fields_of, se
 use Rattle.h265_model.specs.Stream.{order_count}
 use Rattle.h265_model.specs.Decode.{Decoded}
 use Rattle.h265_model.specs.ExtraStream.{has_segments, extra_piece, extra_pieces_after, extra_pieces, extra_stream}
-use Rattle.h265_model.specs.DecodeAll.{Stand, Begun, at_first, at_end, step, shown, at_number, read_units, sets_or_number, decode_all}
+use Rattle.h265_model.specs.Decode.{Stand, Begun, at_first, at_end, step, shown, at_number, read_units, sets_or_number, decode}
 use Rattle.h265_model.proofs.UnitLaws.{units-stream_bytes}
 use Rattle.h265_model.proofs.ListParts.{all_append}
 use Rattle.h265_laws.proofs.ParamLaws.{set_unit_is}
@@ -111,8 +111,8 @@ rest_found size segments rest = refl
 -- the law of streams, where parameter sets are read back
 pub stream_is_decoded : (settings : Settings) (extra : Extra) (units_for : ℕ → Option Raster → Raster → List NalUnit) → AreRead settings extra units_for
     → read_sets (set_units settings.size (has_segments extra)) ≡ Ok (settings.size, has_segments extra)
-    → (rasters : List Raster) → AllByRecursion (IsRaster settings.size) rasters → decode_all (extra_stream settings extra rasters) ≡ Ok (settings.size, rasters)
-unfolding decode_all
+    → (rasters : List Raster) → AllByRecursion (IsRaster settings.size) rasters → decode (extra_stream settings extra rasters) ≡ Ok (settings.size, rasters)
+unfolding decode
 stream_is_decoded settings extra units_for each sets rasters is =
     let size : Size = settings.size in
     let segments : Bool = has_segments extra in

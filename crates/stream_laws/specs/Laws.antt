@@ -11,7 +11,7 @@ use Rattle.h265_model.specs.Settings.{Settings, is_size}
 use Rattle.h265_model.specs.Stream.{stream_of}
 use Rattle.h265_model.specs.ExtraStream.{extra_pieces, extra_stream}
 use Rattle.h265_model.specs.Decode.{decode}
-use Rattle.h265_model.specs.DecodeAll.{decode_all}
+use Rattle.h265_model.specs.Decode.{decode}
 
 -- parameter sets without segments (7.3.2)
 abbrev pub EachSetIsPlain : Type 0
@@ -38,11 +38,7 @@ EachPlainStreamIsThat = (settings : Settings) (pictures : List Raster) → extra
 abbrev pub EachPlainStreamIsDecoded : Type 0
 EachPlainStreamIsDecoded =
     (settings : Settings) (pictures : List Raster) → IsTrue (is_size settings.size) → AllByRecursion (IsRaster settings.size) pictures →
-    decode_all (extra_stream settings Plain pictures) ≡ Ok (settings.size, pictures)
-
--- a stream that was decoded without regard to moves, segments and hashes is decoded to the same
-abbrev pub EachOldStreamIsDecoded : Type 0
-EachOldStreamIsDecoded = (stream : List ℕ) (size : Size) (pictures : List Raster) → decode stream ≡ Ok (size, pictures) → decode_all stream ≡ Ok (size, pictures)
+    decode (extra_stream settings Plain pictures) ≡ Ok (settings.size, pictures)
 
 -- the pieces of a list of pictures, of any kind, begin those of a longer one
 abbrev pub EachPieceIsKept : Type 0

@@ -1,7 +1,7 @@
 //! Laws that tie streams with hashes, segments and moved blocks to plain ones, and laws of their parameter sets. Each function does nothing: its clause is the law.
 #![tactic(auto)]
 
-ghost use Rattle.stream_laws.specs.Laws.{EachSetIsPlain, EachSetIsRead, EachSetIsSpelled, EachPlainStreamIsThat, EachPlainStreamIsDecoded, EachOldStreamIsDecoded, EachPieceIsKept};
+ghost use Rattle.stream_laws.specs.Laws.{EachSetIsPlain, EachSetIsRead, EachSetIsSpelled, EachPlainStreamIsThat, EachPlainStreamIsDecoded, EachPieceIsKept};
 
 /// Without segments the parameter sets are those of a size.
 pub fn each_set_is_plain()
@@ -26,11 +26,6 @@ pub fn each_plain_stream_is_that()
 /// The stream of each list of pictures alone is decoded to them.
 pub fn each_plain_stream_is_decoded()
     ensures { EachPlainStreamIsDecoded }
-{}
-
-/// A stream that was decoded without regard to moves, segments and hashes is decoded to the same.
-pub fn each_old_stream_is_decoded()
-    ensures { EachOldStreamIsDecoded }
 {}
 
 /// Pieces of a list of pictures of any kind begin those of a longer one.

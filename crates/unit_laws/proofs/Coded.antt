@@ -7,8 +7,8 @@ use Rattle.h265_model.specs.Raster.{planes}
 use Rattle.h265_model.specs.Tree.{Source, IsSource}
 use Rattle.h265_model.specs.Stream.{slice_kind}
 use Rattle.h265_model.specs.Decode.{Decoded}
-use Rattle.h265_model.specs.MotionRebuild.{rebuild}
-use Rattle.h265_model.specs.DecodeAll.{referred, is_next}
+use Rattle.h265_model.specs.Rebuild.{rebuild}
+use Rattle.h265_model.specs.Decode.{referred, is_next}
 use Rattle.h265_laws.proofs.PictureLaw.{IsFit}
 use Rattle.unit_laws.specs.Laws.{AreLawfulUnits}
 use Rattle.unit_laws.proofs.UnitRows.{read_first}

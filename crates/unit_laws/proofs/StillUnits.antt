@@ -13,9 +13,11 @@ use Rattle.h265_model.specs.Plain.{Size, coded, ctus, joined, ctu_x, ctu_y}
 use Rattle.h265_model.specs.Predict.{is_inside}
 use Rattle.h265_model.specs.Code.{code}
 use Rattle.h265_model.specs.Tree as Tree
-use Rattle.h265_model.specs.Tree.{Source, IsTree, IsLawfulTree, IsCodingUnit, AreQuarters, AreLawfulTrees, IsMode, AreModes, IsAllowed, AreAllowed, is_whole, leaf_side}
+use Rattle.h265_laws.proofs.LeafReading as Old
+use Rattle.h265_model.specs.Tree.{Source, IsTree, IsCodingUnit, AreQuarters, AreLawfulTrees, IsMode, AreModes, IsAllowed, AreAllowed, is_whole}
+use Rattle.h265_model.specs.Plain.{leaf_side}
 use Rattle.h265_model.specs.Motion.{Moving, as_coded, coded_after, kind_vector, merge, has_source, still, still_kind}
-use Rattle.h265_model.specs.MotionTree.{ReadUnit, Content, Copied, ends_row}
+use Rattle.h265_model.specs.Tree.{ReadUnit, Content, Copied, ends_row}
 use Rattle.h265_model.specs.Walks.{UnitItems, still_unit, move_unit, ctu_items_of, coded_first, ctu_with_end, segment_items_of, contexts_of, segment_code_of}
 use Rattle.h265_model.specs.Plain.{below, terminate_bin}
 use Rattle.h265_laws.proofs.Coverage.{Covers, ArePlaced, CoversBlock, ctu_covers}
@@ -128,21 +130,21 @@ lawful_still kind size leaves total some are = record {
 -- ---- what is read of them
 
 one_read : (source : Source) (before : List Moving) (leaf : Leaf) → AreStill before
-    → unit_content source before (still leaf) (still_kind leaf.kind) ≡ content_as (Tree.content_of source leaf leaf.kind)
+    → unit_content source before (still leaf) (still_kind leaf.kind) ≡ content_as (Old.content_of source leaf leaf.kind)
 one_read source before leaf h = go leaf.kind
   where
-    go : (k : Kind) → unit_content source before (still leaf) (still_kind k) ≡ content_as (Tree.content_of source leaf k)
+    go : (k : Kind) → unit_content source before (still leaf) (still_kind k) ≡ content_as (Old.content_of source leaf k)
     go Skip = ap Copied (merge_still before leaf.x leaf.y leaf.log2 h)
-    go Pcm = ap (λ (l : Leaf). content_as (Tree.content_of source l Pcm)) (leaf_still leaf)
-    go (Intra mode) = ap (λ (l : Leaf). content_as (Tree.content_of source l (Intra mode))) (leaf_still leaf)
+    go Pcm = ap (λ (l : Leaf). content_as (Old.content_of source l Pcm)) (leaf_still leaf)
+    go (Intra mode) = ap (λ (l : Leaf). content_as (Old.content_of source l (Intra mode))) (leaf_still leaf)
 
-still_reads : (source : Source) (before : List Moving) (ls : List Leaf) → AreStill before → reads_after source before (map still ls) ≡ units_as (Tree.reads_of source ls)
+still_reads : (source : Source) (before : List Moving) (ls : List Leaf) → AreStill before → reads_after source before (map still ls) ≡ units_as (Old.reads_of source ls)
 still_reads source before [] h = refl
 still_reads source before (leaf ∷ ls) h =
     ap (λ (c : Content). record { x = leaf.x; y = leaf.y; log2 = leaf.log2; content = c } ∷ reads_after source (before ++ as_coded before (still leaf) ∷ []) (map still ls)) (one_read source before leaf h)
-    ∙ ap (λ (l : List ReadUnit). unit_as (Tree.read_of source leaf) ∷ l) (still_reads source (before ++ as_coded before (still leaf) ∷ []) ls (one_still before leaf h))
+    ∙ ap (λ (l : List ReadUnit). unit_as (Old.read_of source leaf) ∷ l) (still_reads source (before ++ as_coded before (still leaf) ∷ []) ls (one_still before leaf h))
 
-pub first_reads : (source : Source) (leaves : List (List Leaf)) (n : ℕ) → reads_after source [] (joined (take n (map (map still) leaves))) ≡ units_as (Tree.reads_of source (joined (take n leaves)))
+pub first_reads : (source : Source) (leaves : List (List Leaf)) (n : ℕ) → reads_after source [] (joined (take n (map (map still) leaves))) ≡ units_as (Old.reads_of source (joined (take n leaves)))
 first_reads source leaves n = ap (reads_after source []) (first_same n leaves) ∙ still_reads source [] (joined (take n leaves)) tt
 
 -- ---- what is written of them

@@ -18,7 +18,7 @@ use Rattle.h265_model.specs.Binarise.{eg, bypass_bins}
 use Rattle.h265_model.specs.Residual.{IsSide, eight, is_negative}
 use Rattle.h265_model.specs.Tree.{Source, IsSource, split_context, is_whole, is_last}
 use Rattle.h265_model.specs.Motion.{Moving, leaves, leaf_as_coded, predictors, predictor, difference, greater1_of, size_items, part_items, difference_items, second_is_nearer, move_items}
-use Rattle.h265_model.specs.MotionTree.{ends_row}
+use Rattle.h265_model.specs.Tree.{ends_row}
 use Rattle.h265_model.specs.Walks.{UnitWalk, then_walk, walk_and, quarters_of, nothing_of, one_of, is_next_leaf, walk_of, ctu_items_of, coded_first, ctu_with_end, ctus_items_of, row_items_of, segment_items_of, moved_unit, unit_of_kind, move_unit}
 use Rattle.h265_model.proofs.ListParts.{all_append}
 use Rattle.h265_laws.proofs.FormLaw.{AreFine, fine_append, fine_bypass, Continues, continues_none, continues_append, continues_fine}

@@ -17,9 +17,11 @@ use Rattle.h265_model.specs.Plain.{Size, leaf_with, context_bin}
 use Rattle.h265_model.specs.Bits.{◌>>=◌ as and_then}
 use Rattle.h265_model.specs.Engine.{Reader, ◌>>=◌, give, refuse, Reads}
 use Rattle.h265_model.specs.Residual.{IsSide}
-use Rattle.h265_model.specs.Tree.{Source, IsSource, IsMode, AreModes, covers, is_skipped, skip_context, coding_unit_items, content_items, in_P, content_of, part_mode_read, content_read, skip_read}
+use Rattle.h265_model.specs.Tree.{Source, IsSource, IsMode, AreModes, is_skipped, skip_context, coding_unit_items, content_items, in_P, skip_read}
+use Rattle.h265_model.specs.Plain.{covers}
+use Rattle.h265_laws.proofs.LeafReading.{content_of, part_mode_read, content_read}
 use Rattle.h265_model.specs.Motion.{Moving, leaves, no_motion, vector_in, vector_before, first_vector, or_none, is_vector, two_of, predictors, merge, a0, a1, b0, b1, b2, has_source, move_items}
-use Rattle.h265_model.specs.MotionTree.{Content, Copied, Moved, ReadUnit, vector_of, own_read, move_read, coded_read, is_in_picture, unit_with, coding_unit_read}
+use Rattle.h265_model.specs.Tree.{Content, Copied, Moved, ReadUnit, vector_of, own_read, move_read, coded_read, is_in_picture, unit_with, coding_unit_read}
 use Rattle.h265_model.specs.Walks.{moved_unit, move_unit}
 use Rattle.h265_laws.proofs.Reading.{reads_as, reads_bin, reads_give}
 use Rattle.h265_laws.proofs.TreeLaw.{reads_content, reads_part_mode}

@@ -22,7 +22,7 @@ use Rattle.h265_laws.proofs.EndsLaw.{code_ends}
 use Rattle.h265_laws.proofs.SubstreamLaw.{ends_in}
 use Rattle.unit_laws.specs.Laws.{EachUnitRowIsSubstream}
 use Rattle.unit_laws.proofs.UnitForm.{UnitsHaveSides, AllUnitsHaveSides, lawful_sides, slice_form, segment_form}
-use Rattle.h265_model.specs.MotionTree.{ends_row}
+use Rattle.h265_model.specs.Tree.{ends_row}
 
 -- ---- units
 

@@ -11,12 +11,14 @@ use Rattle.h265_model.specs.declared.moves.MoveKind.TheVariants as moves
 use Rattle.h265_model.specs.Plain.{Size, Picture, coded, joined, leaf_with, IsPicture}
 use Rattle.h265_model.specs.Predict.{is_inside, is_available}
 use Rattle.h265_model.specs.Raster.{plane, blank}
-use Rattle.h265_model.specs.Tree.{source_of, covers, leaf_side, samples_in, content_of}
-use Rattle.h265_model.specs.Rebuild as Old
+use Rattle.h265_model.specs.Tree.{source_of, samples_in}
+use Rattle.h265_model.specs.Plain.{covers, leaf_side}
+use Rattle.h265_laws.proofs.LeafReading.{content_of}
+use Rattle.h265_laws.proofs.LeafDecoding as Old
 use Rattle.h265_model.specs.Rebuild.{with_block}
 use Rattle.h265_model.specs.Motion.{Moving, leaf_as_coded, kind_as_coded, as_coded}
-use Rattle.h265_model.specs.MotionTree.{ReadUnit, kind_of}
-use Rattle.h265_model.specs.MotionRebuild.{block_of, with_unit, with_units, rebuild}
+use Rattle.h265_model.specs.Tree.{ReadUnit, kind_of}
+use Rattle.h265_model.specs.Rebuild.{block_of, with_unit, with_units, rebuild}
 use Rattle.h265_model.proofs.Squares.{same_places}
 use Rattle.h265_laws.proofs.Coverage.{is_covered, IsPlaced, ArePlaced, inside_from}
 use Rattle.h265_laws.proofs.RebuildLaw.{Agree, block_back, at_samples, last_order}

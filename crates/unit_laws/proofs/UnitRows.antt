@@ -14,8 +14,8 @@ use Rattle.h265_model.specs.Contexts.{row_start, start as first_contexts, AreCon
 use Rattle.h265_model.specs.Code.{code, contexts_after, IsWellFormed}
 use Rattle.h265_model.specs.Tree.{Source, IsSource, expect, contexts_read, is_last}
 use Rattle.h265_model.specs.Motion.{Moving, coded_after}
-use Rattle.h265_model.specs.MotionTree.{ReadUnit, ReadCtu, units_of, units_after, moving_of, ctu_read, ctus_read, ends_row}
-use Rattle.h265_model.specs.MotionSlice.{slice_row_read, segment_row_read, handed_on, row_of_bytes}
+use Rattle.h265_model.specs.Tree.{ReadUnit, ReadCtu, units_of, units_after, moving_of, ctu_read, ctus_read, ends_row}
+use Rattle.h265_model.specs.Slice.{slice_row_read, segment_row_read, handed_on, row_of_bytes}
 use Rattle.h265_model.specs.Walks.{UnitItems, move_unit, ctu_items_of, coded_first, ctu_with_end, ctus_items_of, row_items_of, segment_items_of, contexts_of}
 use Rattle.h265_laws.specs.Laws.{IsReadBack}
 use Rattle.h265_laws.proofs.Parts.{law, start_contexts}

@@ -16,7 +16,7 @@ use Rattle.h265_model.specs.Residual.{IsSide, eight}
 use Rattle.h265_model.specs.Predict.{is_inside}
 use Rattle.h265_model.specs.Tree.{Source, IsSource, IsMode, AreModes, split_context, is_whole, coding_unit_items}
 use Rattle.h265_model.specs.Motion.{Moving, leaves, as_coded, coded_after, leaf_as_coded, kind_as_coded, kind_vector, merge}
-use Rattle.h265_model.specs.MotionTree.{ReadUnit, moving_of, units_after, coding_unit_read, quarters_read, tree_read, ctu_read}
+use Rattle.h265_model.specs.Tree.{ReadUnit, moving_of, units_after, coding_unit_read, quarters_read, tree_read, ctu_read}
 use Rattle.h265_model.specs.Walks.{UnitWalk, then_walk, walk_and, quarters_of, nothing_of, one_of, is_next_leaf, walk_of, ctu_items_of, moved_unit, unit_of_kind, move_unit}
 use Rattle.h265_model.proofs.ListParts.{all_append}
 use Rattle.h265_laws.proofs.Parts.{BeginsWithBin}

@@ -9,7 +9,7 @@ use Rattle.h265_model.specs.Engine.{Reads, ReadsWith, ◌>>=◌, give}
 use Rattle.h265_model.specs.Tree.{expect, Source, IsSource, source_of, samples_in, AreModes, is_whole, ctu_items}
 use Rattle.h265_model.specs.Predict.{is_inside}
 use Rattle.h265_model.specs.Residual.{IsSide}
-use Rattle.h265_model.specs.MotionTree.{Content, Copied, Moved, Samples, Levels, ReadUnit, ReadCtu, coding_unit_read, ctu_read, ends_row}
+use Rattle.h265_model.specs.Tree.{Content, Copied, Moved, Samples, Levels, ReadUnit, ReadCtu, coding_unit_read, ctu_read, ends_row}
 use Rattle.h265_model.specs.Motion.{Moving, leaves, leaf_as_coded, as_coded, merge, has_source, move_items, vector_read, still}
 use Rattle.h265_model.specs.declared.moves.MoveLeaf.{MoveLeaf}
 use Rattle.h265_model.specs.declared.moves.MoveKind.{MoveKind}
@@ -20,8 +20,8 @@ use Rattle.h265_model.specs.declared.leaf.Leaf.{Leaf}
 use Rattle.h265_model.specs.Slice.{contexts_at, row_code}
 use Rattle.h265_model.specs.Code.{code, contexts_after, IsWellFormed}
 use Rattle.h265_model.specs.Raster.{planes}
-use Rattle.h265_model.specs.MotionRebuild.{moved_samples, rebuild}
-use Rattle.h265_model.specs.MotionSlice.{slice_row_read, segment_row_read}
+use Rattle.h265_model.specs.Rebuild.{moved_samples, rebuild}
+use Rattle.h265_model.specs.Slice.{slice_row_read, segment_row_read}
 use Rattle.h265_model.specs.Walks.{UnitItems, ctu_items_of, coded_first, row_items_of, segment_items_of, still_unit, move_unit, code_of, segment_code_of}
 
 -- ---- vectors
