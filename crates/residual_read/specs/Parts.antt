@@ -1,0 +1,91 @@
+-- What the parts of the code read, each as its loop goes, with numbers whose digits are the flags read so far.
+use Rattle.std.specs.Prelude.{◌≡◌, ◌≤◌, ◌<◌, ℕ, zero, suc, ◌+◌, ◌*◌, ◌/◌, ◌-◌, ◌^◌, Bool, true, false, not, ◌||◌, List, [], ◌∷◌, ◌++◌, ◌==◌, nat_le, if◌then◌else◌, ℤ, pos, replicate, Option, Some, None}
+use Rattle.h265_model.specs.declared.Place.TheVariants.{Context, Bypass}
+use Rattle.h265_model.specs.Bits.{digit}
+use Rattle.h265_model.specs.Engine.{Engine, Reader, ◌>>=◌, give, refuse, bin}
+use Rattle.h265_model.specs.Binarise.{tr_read, tr_from, fl_read, remaining_read}
+use Rattle.h265_model.specs.Residual as residual
+use Rattle.h265_model.specs.Residual.{place_at, sub_scan, Sub, Known, sig_at, is_implied, greater1_context, counted, last_context, known, known_later, rice_after, signed}
+use Rattle.residual_read.specs.declared.shape.Shape.{Shape}
+use Rattle.residual_read.specs.declared.shape.SubBlock.{SubBlock}
+
+-- a shape as the definitions have it
+abbrev pub shape_of : Shape → residual.Shape
+shape_of s = residual.shape s.component s.log2 s.scan
+
+-- a component, a side of 8, 16 or 32, and a scan
+pub record IsShape (s : Shape) : Type 0 where
+  pub component : s.component < 3
+  pub low : 3 ≤ s.log2
+  pub high : s.log2 ≤ 5
+  pub scan : s.scan < 3
+
+-- how many sub-blocks there are
+abbrev pub sub_count : Shape → ℕ
+sub_count s = 4 ^ (s.log2 - 2)
+
+-- what is known of a sub-block as the definitions have it
+abbrev pub sub_of : SubBlock → Sub
+sub_of b = record { number = b.number; right = b.right; below = b.below }
+
+-- the sub-block with its number stands there
+pub record IsSubBlock (s : Shape) (b : SubBlock) : Type 0 where
+  pub number : b.number < sub_count s
+  pub x : b.x ≡ (place_at (sub_scan (shape_of s)) b.number).0
+  pub y : b.y ≡ (place_at (sub_scan (shape_of s)) b.number).1
+
+-- the prefix of a coordinate of the last level, behind so many ones
+unfoldable pub prefix_from : residual.Shape → Bool → ℕ → ℕ → Reader ℕ
+prefix_from s vertical i left = tr_from (λ i. Context (last_context s.component s.log2 vertical i)) i left
+
+-- the flags of k more levels, as digits after those of a number
+unfoldable pub mask_read : residual.Shape → Sub → Bool → ℕ → ℕ → Reader ℕ
+mask_read s sub inner mask zero = give mask
+mask_read s sub inner mask (suc k) = do
+  flag ← if is_implied inner (not (mask == 0)) k then give true else bin (Context (sig_at s sub k))
+  mask_read s sub inner (2 * mask + digit flag) k
+
+-- n more greater1 flags, as digits after those of a number
+unfoldable pub ones_read : ℕ → ℕ → ℕ → ℕ → ℕ → Reader ℕ
+ones_read component set counter ones zero = give ones
+ones_read component set counter ones (suc n) = do
+  flag ← bin (Context (greater1_context component set counter))
+  ones_read component set (counted counter flag) (2 * ones + digit flag) n
+
+-- ones without contexts behind those, of so many at most, and the zero after fewer
+unfoldable pub four_from : ℕ → ℕ → Reader ℕ
+four_from i left = tr_from (λ _. Bypass) i left
+
+-- an escape behind what its ones added so far
+unfoldable pub escape_read : ℕ → ℕ → ℕ → Reader ℕ
+escape_read sum zero k = do
+  b ← bin Bypass
+  if b then refuse else (fl_read k >>= λ low. give (sum + low))
+escape_read sum (suc ones) k = do
+  b ← bin Bypass
+  if b then escape_read (sum + 2 ^ k) ones (suc k) else (fl_read k >>= λ low. give (sum + low))
+
+abbrev pub known_as : ℕ → Bool → Known
+known_as base more = record { base = base; has_remaining = more }
+
+-- a size of at most 255, where the flags say this much of it
+abbrev pub size_read : ℕ → Known → Reader ℕ
+size_read r k = do
+  rest ← if k.has_remaining then remaining_read r else give 0
+  if nat_le (k.base + rest) 255 then give (k.base + rest) else refuse
+
+-- what greater1 flags tell of their levels, behind a flag of 1 or not
+abbrev pub known_after : Bool → Bool → List Bool → List Known
+known_after true greater2 flags = known_later flags
+known_after false greater2 flags = known greater2 flags
+
+abbrev pub unflagged : Known
+unflagged = record { base = 1; has_remaining = true }
+
+-- levels behind those that were read, of which these signs and this much are known
+abbrev pub levels_from : ℕ → List Known → List Bool → List ℤ → Reader (List ℤ)
+levels_from r [] signs values = give values
+levels_from r (k ∷ ks) [] values = refuse
+levels_from r (k ∷ ks) (sign ∷ signs) values = do
+  size ← size_read r k
+  levels_from (if k.has_remaining then rice_after r size else r) ks signs (values ++ signed sign size ∷ [])

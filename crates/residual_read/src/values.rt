@@ -1,0 +1,117 @@
+//! The sizes and signs of a sub-block's levels other than 0, in the order of coding.
+ghost use Rattle.std.specs.Prelude.{◌≡◌, ◌<◌, ◌≤◌, ◌+◌, ◌*◌, ◌-◌, ◌^◌, ◌==◌, if◌then◌else◌, min, IfSome, length, false, true, replicate, ◌++◌, [], nat_le};
+ghost use Rattle.h265_model.specs.Bits.{u};
+ghost use Rattle.h265_model.specs.Binarise.{tr_read, remaining_read, eg_read};
+ghost use Rattle.h265_model.specs.Residual as residual;
+ghost use Rattle.cabac_dec.specs.State.{IsOpen, Answers};
+ghost use Rattle.residual_read.specs.Parts.{ones_read, escape_read, four_from, size_read, known_as};
+
+use cabac_dec::{Decoder, Place};
+use scan_orders::greater1_context;
+
+// Reads coeff_abs_level_greater1_flag of so many levels, as digits.
+fn read_ones(decoder: &mut Decoder, component: u32, set: u32, many: u32) -> Option<u32>
+    requires open { IsOpen decoder.old }
+    requires component { component < 3 }
+    requires set { set < (if component == 0 then 4 else 2) }
+    requires many { many ≤ 8 }
+    ensures value { Answers result (ones_read component set 1 0 many decoder.old) decoder.new }
+    ensures open { IfSome result (λ _. IsOpen decoder.new) }
+    ensures below { IfSome result (λ ones. ones < 2 ^ many) }
+{
+    let mut ones = 0;
+    let mut counter = 1;
+    for i in 0..many {
+        let flag = decoder.bin(Place::Context(greater1_context(component, set, counter)))?;
+        ones = 2 * ones + u32::from(flag);
+        counter = counted(counter, flag);
+    }
+    Some(ones)
+}
+
+// The counter after a flag: 0 from the first flag of 1 on.
+#[inline(always)]
+fn counted(counter: u32, flag: bool) -> u32
+    requires { counter ≤ 8 }
+    ensures value { result ≡ residual.counted counter flag }
+    ensures high { result ≤ counter + 1 }
+{
+    if flag || counter == 0 { 0 } else { counter + 1 }
+}
+
+// Reads ones, at most four, and the zero after fewer.
+fn read_prefix(decoder: &mut Decoder) -> Option<u32>
+    requires open { IsOpen decoder.old }
+    ensures value { Answers result (four_from 0 4 decoder.old) decoder.new }
+    ensures open { IfSome result (λ _. IsOpen decoder.new) }
+    ensures most { IfSome result (λ ones. ones ≤ 4) }
+{
+    let mut ones = 0;
+    while ones < 4 {
+        if !decoder.bin(Place::Bypass)? {
+            return Some(ones);
+        }
+        ones += 1;
+    }
+    Some(ones)
+}
+
+// Reads EGk (9.3.3.3).
+fn read_escape(decoder: &mut Decoder, k: u32) -> Option<u32>
+    requires open { IsOpen decoder.old }
+    requires few { k ≤ 5 }
+    ensures value { Answers result (escape_read 0 15 k decoder.old) decoder.new }
+    ensures low { IfSome result (λ rest. rest < 2097152) }
+    ensures open { IfSome result (λ _. IsOpen decoder.new) }
+{
+    let mut sum = 0;
+    for ones in 0..15 {
+        if !decoder.bin(Place::Bypass)? {
+            let low = decoder.bypass(k + ones)?;
+            return Some(sum + low);
+        }
+        sum += 1 << (k + ones);
+    }
+    if decoder.bin(Place::Bypass)? {
+        return None;
+    }
+    let low = decoder.bypass(k + 15)?;
+    Some(sum + low)
+}
+
+// Reads coeff_abs_level_remaining (9.3.3.11).
+fn read_remaining(decoder: &mut Decoder, rice: u32) -> Option<u32>
+    requires open { IsOpen decoder.old }
+    requires rice { rice ≤ 4 }
+    ensures value { Answers result (remaining_read rice decoder.old) decoder.new }
+    ensures open { IfSome result (λ _. IsOpen decoder.new) }
+    ensures low { IfSome result (λ rest. rest < 4194304) }
+{
+    let ones = read_prefix(decoder)?;
+    if ones < 4 {
+        let low = decoder.bypass(rice)?;
+        return Some((ones << rice) + low);
+    }
+    let rest = read_escape(decoder, rice + 1)?;
+    Some((4 << rice) + rest)
+}
+
+// Reads the size of a level of which the flags say `base`, and whether more is coded. It is at most 255.
+fn read_size(decoder: &mut Decoder, rice: u32, base: u32, more: bool) -> Option<u32>
+    requires open { IsOpen decoder.old }
+    requires rice { rice ≤ 4 }
+    requires base { base ≤ 3 }
+    ensures value { Answers result (size_read rice (known_as base more) decoder.old) decoder.new }
+    ensures open { IfSome result (λ _. IsOpen decoder.new) }
+    ensures low { IfSome result (λ size. size ≤ 255) }
+    ensures high { IfSome result (λ size. base ≤ size) }
+{
+    if !more {
+        return Some(base);
+    }
+    let size = base + read_remaining(decoder, rice)?;
+    if size > 255 {
+        return None;
+    }
+    Some(size)
+}
