@@ -376,3 +376,26 @@ room_more flag d flags left e h k =
     by : (flag : Bool) (d flags p q : ℕ) → d ≡ digit flag → q ≡ p * 2 → (flags + 1) * q ≤ 65536 → (2 * flags + d + 1) * p ≤ 65536
     by true d flags p q e s k = rw e (let j = (rw s at k) in omega arith)
     by false d flags p q e s k = rw e (let j = (rw s at k) in omega arith)
+
+rice_power : (r : ℕ) → r ≤ 4 → 2 ^ r ≤ 16
+rice_power r h = low (pow_mono {i = r} {j = 4} h)
+  where
+    low : 2 ^ r ≤ 2 ^ 4 → 2 ^ r ≤ 16
+    low h = h
+
+product_low : (a p : ℕ) → a ≤ 4 → p ≤ 16 → a * p ≤ 64
+product_low zero p h k = omega arith
+product_low (suc zero) p h k = omega arith
+product_low (suc (suc zero)) p h k = omega arith
+product_low (suc (suc (suc zero))) p h k = omega arith
+product_low (suc (suc (suc (suc zero)))) p h k = omega arith
+product_low (suc (suc (suc (suc (suc a))))) p h k = absurd (omega arith)
+
+pub shifted_low : (a r : ℕ) → r ≤ 4 → a ≤ 4 → a * 2 ^ r ≤ 64
+shifted_low a r h k = product_low a (2 ^ r) k (rice_power r h)
+
+pub shifted_is : (a r : ℕ) → r ≤ 4 → a ≤ 4 → a * 2 ^ r % 4294967296 ≡ a * 2 ^ r
+shifted_is a r h k = by (a * 2 ^ r) (shifted_low a r h k)
+  where
+    by : (x : ℕ) → x ≤ 64 → x % 4294967296 ≡ x
+    by x h = omega arith

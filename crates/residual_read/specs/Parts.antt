@@ -1,7 +1,7 @@
 -- What the parts of the code read, each as its loop goes, with numbers whose digits are the flags read so far.
-use Rattle.std.specs.Prelude.{◌≡◌, ◌≤◌, ◌<◌, ℕ, zero, suc, ◌+◌, ◌*◌, ◌/◌, ◌-◌, ◌^◌, Bool, true, false, not, ◌||◌, List, [], ◌∷◌, ◌++◌, ◌==◌, nat_le, if◌then◌else◌, ℤ, pos, replicate, Option, Some, None}
+use Rattle.std.specs.Prelude.{◌≡◌, ◌≤◌, ◌<◌, ℕ, zero, suc, ◌+◌, ◌*◌, ◌/◌, ◌-◌, ◌^◌, ◌%◌, Bool, true, false, not, ◌||◌, List, [], ◌∷◌, ◌++◌, ◌==◌, nat_le, if◌then◌else◌, ℤ, pos, replicate, Option, Some, None}
 use Rattle.h265_model.specs.declared.Place.TheVariants.{Context, Bypass}
-use Rattle.h265_model.specs.Bits.{digit}
+use Rattle.h265_model.specs.Bits.{digit, u}
 use Rattle.h265_model.specs.Engine.{Engine, Reader, ◌>>=◌, give, refuse, bin}
 use Rattle.h265_model.specs.Binarise.{tr_read, tr_from, fl_read, remaining_read}
 use Rattle.h265_model.specs.Residual as residual
@@ -89,3 +89,22 @@ levels_from r (k ∷ ks) [] values = refuse
 levels_from r (k ∷ ks) (sign ∷ signs) values = do
   size ← size_read r k
   levels_from (if k.has_remaining then rice_after r size else r) ks signs (values ++ signed sign size ∷ [])
+
+-- what the flags say of the next level
+abbrev pub known_one : Bool → Bool → Bool → Known
+known_one seen greater2 false = record { base = 1; has_remaining = false }
+known_one true greater2 true = record { base = 2; has_remaining = true }
+known_one false greater2 true = record { base = 2 + digit greater2; has_remaining = greater2 }
+
+abbrev pub next_known : Bool → Bool → ℕ → ℕ → Known
+next_known seen greater2 left ones = if left == 0 then unflagged else known_one seen greater2 (ones / 2 ^ (left - 1) % 2 == 1)
+
+-- n levels more, the first of them with the last `left` digits of `ones` as greater1 flags, and with the last digits of `signs` as signs
+unfoldable pub levels_at : ℕ → Bool → Bool → ℕ → ℕ → ℕ → ℕ → List ℤ → Reader (List ℤ)
+levels_at rice seen greater2 ones left n signs values =
+    levels_from rice (known_after seen greater2 (u left ones) ++ replicate (n - left) unflagged) (u n signs) values
+
+-- what is written for a reader's value, or nothing just where nothing is read
+abbrev pub Gives : {A : Type 0} → Option (Unit {0}) → A → Option (A × Engine) → Engine → Type 0
+Gives None out read new = read ≡ None
+Gives (Some _) out read new = read ≡ Some (out, new)

@@ -4,8 +4,10 @@ ghost use Rattle.h265_model.specs.Bits.{u};
 ghost use Rattle.h265_model.specs.Binarise.{tr_read, remaining_read, eg_read};
 ghost use Rattle.h265_model.specs.Residual as residual;
 ghost use Rattle.cabac_dec.specs.State.{IsOpen, Answers};
-ghost use Rattle.residual_read.specs.Parts.{ones_read, escape_read, four_from, size_read, known_as};
+ghost use Rattle.residual_read.specs.Parts.{ones_read, escape_read, four_from, size_read, known_as, next_known, Gives, levels_at};
+ghost use Rattle.residual_read.specs.Parts as parts;
 
+use arrayvec::ArrayVec;
 use cabac_dec::{Decoder, Place};
 use scan_orders::greater1_context;
 
@@ -114,4 +116,92 @@ fn read_size(decoder: &mut Decoder, rice: u32, base: u32, more: bool) -> Option<
         return None;
     }
     Some(size)
+}
+
+// What the flags say of the next level: its least size, and whether more is coded. `left` levels have greater1 flags, the last digits of `ones`, and
+// `seen` says whether an earlier one was 1.
+#[inline(always)]
+fn known(ones: u32, left: u32, greater2: bool, seen: bool) -> (u32, bool)
+    requires few { left ≤ 8 }
+    ensures value { known_as result.0 result.1 ≡ next_known seen greater2 left ones }
+    ensures low { result.0 ≤ 3 }
+{
+    if left == 0 {
+        return (1, true);
+    }
+    let flag = ones >> (left - 1) & 1 == 1;
+    known_one(flag, greater2, seen)
+}
+
+#[inline(always)]
+fn known_one(flag: bool, greater2: bool, seen: bool) -> (u32, bool)
+    ensures value { known_as result.0 result.1 ≡ parts.known_one seen greater2 flag }
+    ensures low { result.0 ≤ 3 }
+{
+    if !flag {
+        (1, false)
+    } else if seen {
+        (2, true)
+    } else {
+        (2 + u32::from(greater2), greater2)
+    }
+}
+
+// The Rice parameter after a level of this size, of which more was coded or not (9.3.3.11).
+#[inline(always)]
+fn rice_after(rice: u32, size: u32, more: bool) -> u32
+    requires rice { rice ≤ 4 }
+    ensures value { result ≡ (if more then residual.rice_after rice size else rice) }
+    ensures low { result ≤ 4 }
+{
+    if more && size > 3 << rice {
+        (rice + 1).min(4)
+    } else {
+        rice
+    }
+}
+
+#[inline(always)]
+fn less(left: u32) -> u32
+    ensures { result ≡ left - 1 }
+{
+    if left == 0 { 0 } else { left - 1 }
+}
+
+#[inline(always)]
+fn signed(negative: bool, size: u32) -> i16
+    requires { size ≤ 255 }
+    ensures { result ≡ residual.signed negative size }
+{
+    let size = size as i16;
+    if negative { -size } else { size }
+}
+
+// Reads the sizes of so many levels, of which `ones` has the greater1 flags and `signs` the signs, and adds the levels.
+fn read_levels(
+    decoder: &mut Decoder,
+    ones: u32,
+    greater2: bool,
+    signs: u32,
+    many: u32,
+    values: &mut ArrayVec<i16, 16>,
+) -> Option<()>
+    requires open { IsOpen decoder.old }
+    requires room { length values.old.items + many ≤ 16 }
+    ensures value { Gives result values.new.items (levels_at 0 false greater2 ones (min many 8) many signs values.old.items decoder.old) decoder.new }
+    ensures open { IfSome result (λ _. IsOpen decoder.new) }
+{
+    let mut left = many.min(8);
+    let mut rice = 0;
+    let mut seen = false;
+    for i in 0..many {
+        let (base, more) = known(ones, left, greater2, seen);
+        let size = read_size(decoder, rice, base, more)?;
+        let negative = signs >> (many - (i + 1)) & 1 == 1;
+        values.push(signed(negative, size));
+        rice = rice_after(rice, size, more);
+        seen = seen || base > 1;
+        left = less(left);
+    }
+    Some(())
 }

@@ -50,3 +50,18 @@ overflow_add-result-2 c =
 pub returns-clause-value : goal.returns-clause-value
 returns-clause-value c = c.loop-ones.invariant.goes ∙ last_low c.loop-ones.sum c.loop-ones.ones c.args.k c.in_ok-low-2.low c.loop-ones.decoder c.bin-2.new.self c.bypass-2.new.self (omega arith)
     (c.in_ok-bin-2.ensures.value ∙ ap (λ b. Some (b, c.bin-2.new.self)) c.if-branch.false) c.in_ok-low-2.ensures.value
+
+pub returns-then-not-branch-clause-low : goal.returns-then-not-branch-clause-low
+returns-then-not-branch-clause-low c =
+    let p = power_by c.args.k c.loop-ones.ones c.requires.few (omega arith) in
+    let s = c.loop-ones.invariant.below in
+    let l = fl_below (c.args.k + c.loop-ones.ones) c.in_ok-low.low c.bin.new.self c.bypass.new.self c.in_ok-low.ensures.value in
+    omega arith
+
+pub returns-clause-low : goal.returns-clause-low
+returns-clause-low c =
+    let e : c.loop-ones.ones ≡ 15 = omega arith in
+    let p = power_by c.args.k 15 c.requires.few (omega arith) in
+    let s = (rw e at c.loop-ones.invariant.below) in
+    let l = fl_below (c.args.k + 15) c.in_ok-low-2.low c.bin-2.new.self c.bypass-2.new.self c.in_ok-low-2.ensures.value in
+    omega arith
