@@ -1,3 +1,4 @@
 pub mod Steps
 pub mod Shapes
 pub mod Coordinates
+pub mod LevelSteps

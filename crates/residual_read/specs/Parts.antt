@@ -1,11 +1,11 @@
 -- What the parts of the code read, each as its loop goes, with numbers whose digits are the flags read so far.
-use Rattle.std.specs.Prelude.{◌≡◌, ◌≤◌, ◌<◌, ℕ, zero, suc, ◌+◌, ◌*◌, ◌/◌, ◌-◌, ◌^◌, ◌%◌, Bool, true, false, not, ◌||◌, List, [], ◌∷◌, ◌++◌, ◌==◌, nat_le, if◌then◌else◌, ℤ, pos, replicate, Option, Some, None}
+use Rattle.std.specs.Prelude.{◌≡◌, ◌≤◌, ◌<◌, ℕ, zero, suc, ◌+◌, ◌*◌, ◌/◌, ◌-◌, ◌^◌, ◌%◌, Bool, true, false, not, ◌||◌, List, [], ◌∷◌, ◌++◌, ◌==◌, nat_le, if◌then◌else◌, ℤ, pos, replicate, min, Option, Some, None}
 use Rattle.h265_model.specs.declared.Place.TheVariants.{Context, Bypass}
 use Rattle.h265_model.specs.Bits.{digit, u}
 use Rattle.h265_model.specs.Engine.{Engine, Reader, ◌>>=◌, give, refuse, bin}
 use Rattle.h265_model.specs.Binarise.{tr_read, tr_from, fl_read, remaining_read}
 use Rattle.h265_model.specs.Residual as residual
-use Rattle.h265_model.specs.Residual.{place_at, sub_scan, Sub, Known, sig_at, is_implied, greater1_context, counted, last_context, known, known_later, rice_after, signed}
+use Rattle.h265_model.specs.Residual.{place_at, sub_scan, Sub, Known, sig_at, is_implied, greater1_context, greater2_context, counted, last_context, known, known_later, rice_after, signed}
 use Rattle.residual_read.specs.declared.shape.Shape.{Shape}
 use Rattle.residual_read.specs.declared.shape.SubBlock.{SubBlock}
 
@@ -103,6 +103,24 @@ next_known seen greater2 left ones = if left == 0 then unflagged else known_one 
 unfoldable pub levels_at : ℕ → Bool → Bool → ℕ → ℕ → ℕ → ℕ → List ℤ → Reader (List ℤ)
 levels_at rice seen greater2 ones left n signs values =
     levels_from rice (known_after seen greater2 (u left ones) ++ replicate (n - left) unflagged) (u n signs) values
+
+-- the greater2 flag, if a greater1 flag is 1
+unfoldable pub second_read : ℕ → ℕ → ℕ → Reader Bool
+second_read component set ones = if ones == 0 then give false else bin (Context (greater2_context component set))
+
+-- the greater1 flags as digits, and the levels other than 0, of which there are so many
+unfoldable pub values_with : ℕ → ℕ → ℕ → Reader (ℕ × List ℤ)
+values_with component set many = do
+  ones ← ones_read component set 1 0 (min many 8)
+  greater2 ← second_read component set ones
+  signs ← fl_read many
+  values ← levels_at 0 false greater2 ones (min many 8) many signs []
+  give (ones, values)
+
+-- a number and what is written beside it
+abbrev pub GivesWith : {A : Type 0} → Option ℕ → A → Option ((ℕ × A) × Engine) → Engine → Type 0
+GivesWith None out read new = read ≡ None
+GivesWith (Some number) out read new = read ≡ Some ((number, out), new)
 
 -- what is written for a reader's value, or nothing just where nothing is read
 abbrev pub Gives : {A : Type 0} → Option (Unit {0}) → A → Option (A × Engine) → Engine → Type 0

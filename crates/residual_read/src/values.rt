@@ -1,15 +1,15 @@
 //! The sizes and signs of a sub-block's levels other than 0, in the order of coding.
-ghost use Rattle.std.specs.Prelude.{◌≡◌, ◌<◌, ◌≤◌, ◌+◌, ◌*◌, ◌-◌, ◌^◌, ◌==◌, if◌then◌else◌, min, IfSome, length, false, true, replicate, ◌++◌, [], nat_le};
+ghost use Rattle.std.specs.Prelude.{◌≡◌, ◌<◌, ◌≤◌, ◌+◌, ◌*◌, ◌-◌, ◌^◌, ◌==◌, if◌then◌else◌, min, IfSome, length, false, true, replicate, ◌++◌, [], nat_lt, ◌||◌, ◌/◌, ◌%◌};
 ghost use Rattle.h265_model.specs.Bits.{u};
 ghost use Rattle.h265_model.specs.Binarise.{tr_read, remaining_read, eg_read};
 ghost use Rattle.h265_model.specs.Residual as residual;
 ghost use Rattle.cabac_dec.specs.State.{IsOpen, Answers};
-ghost use Rattle.residual_read.specs.Parts.{ones_read, escape_read, four_from, size_read, known_as, next_known, Gives, levels_at};
+ghost use Rattle.residual_read.specs.Parts.{ones_read, escape_read, four_from, size_read, known_as, next_known, Gives, GivesWith, levels_at, second_read, values_with};
 ghost use Rattle.residual_read.specs.Parts as parts;
 
 use arrayvec::ArrayVec;
 use cabac_dec::{Decoder, Place};
-use scan_orders::greater1_context;
+use scan_orders::{greater1_context, greater2_context};
 
 // Reads coeff_abs_level_greater1_flag of so many levels, as digits.
 fn read_ones(decoder: &mut Decoder, component: u32, set: u32, many: u32) -> Option<u32>
@@ -161,6 +161,22 @@ fn rice_after(rice: u32, size: u32, more: bool) -> u32
     }
 }
 
+// Whether a flag was 1, up to this level.
+#[inline(always)]
+fn seen_after(seen: bool, base: u32) -> bool
+    ensures { result ≡ (seen || nat_lt 1 base) }
+{
+    seen || base > 1
+}
+
+#[inline(always)]
+fn bit(digits: u32, at: u32) -> bool
+    requires { at < 32 }
+    ensures { result ≡ (digits / 2 ^ at % 2 == 1) }
+{
+    digits >> at & 1 == 1
+}
+
 #[inline(always)]
 fn less(left: u32) -> u32
     ensures { result ≡ left - 1 }
@@ -197,11 +213,50 @@ fn read_levels(
     for i in 0..many {
         let (base, more) = known(ones, left, greater2, seen);
         let size = read_size(decoder, rice, base, more)?;
-        let negative = signs >> (many - (i + 1)) & 1 == 1;
+        let negative = bit(signs, many - (i + 1));
         values.push(signed(negative, size));
         rice = rice_after(rice, size, more);
-        seen = seen || base > 1;
+        seen = seen_after(seen, base);
         left = less(left);
     }
     Some(())
+}
+
+// Reads coeff_abs_level_greater2_flag, if a greater1 flag is 1.
+#[inline(always)]
+fn read_second(decoder: &mut Decoder, component: u32, set: u32, ones: u32) -> Option<bool>
+    requires open { IsOpen decoder.old }
+    requires component { component < 3 }
+    requires set { set < (if component == 0 then 4 else 2) }
+    ensures value { Answers result (second_read component set ones decoder.old) decoder.new }
+    ensures open { IfSome result (λ _. IsOpen decoder.new) }
+{
+    if ones == 0 {
+        return Some(false);
+    }
+    decoder.bin(Place::Context(greater2_context(component, set)))
+}
+
+/// Reads so many levels other than 0 of a sub-block: their flags in a set of contexts, their signs, and what is left of their sizes. It gives the
+/// greater1 flags as digits.
+pub(crate) fn read_values(
+    decoder: &mut Decoder,
+    component: u32,
+    set: u32,
+    many: u32,
+    values: &mut ArrayVec<i16, 16>,
+) -> Option<u32>
+    requires open { IsOpen decoder.old }
+    requires component { component < 3 }
+    requires set { set < (if component == 0 then 4 else 2) }
+    requires many { many ≤ 16 }
+    requires none { values.old.items ≡ [] }
+    ensures value { GivesWith result values.new.items (values_with component set many decoder.old) decoder.new }
+    ensures open { IfSome result (λ _. IsOpen decoder.new) }
+{
+    let ones = read_ones(decoder, component, set, many.min(8))?;
+    let greater2 = read_second(decoder, component, set, ones)?;
+    let signs = decoder.bypass(many)?;
+    read_levels(decoder, ones, greater2, signs, many, values)?;
+    Some(ones)
 }
