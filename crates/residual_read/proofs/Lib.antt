@@ -2,3 +2,5 @@ pub mod Steps
 pub mod Shapes
 pub mod Coordinates
 pub mod LevelSteps
+pub mod MarkLaws
+pub mod Laying

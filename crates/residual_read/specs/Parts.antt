@@ -1,11 +1,13 @@
 -- What the parts of the code read, each as its loop goes, with numbers whose digits are the flags read so far.
-use Rattle.std.specs.Prelude.{◌≡◌, ◌≤◌, ◌<◌, ℕ, zero, suc, ◌+◌, ◌*◌, ◌/◌, ◌-◌, ◌^◌, ◌%◌, Bool, true, false, not, ◌||◌, List, [], ◌∷◌, ◌++◌, ◌==◌, nat_le, if◌then◌else◌, ℤ, pos, replicate, min, Option, Some, None}
+use Rattle.std.specs.Prelude.{◌≡◌, ◌≤◌, ◌<◌, ℕ, zero, suc, ◌+◌, ◌*◌, ◌/◌, ◌-◌, ◌^◌, ◌%◌, Bool, true, false, not, ◌||◌, List, [], ◌∷◌, ◌++◌, ◌==◌, nat_le, if◌then◌else◌, ℤ, pos, replicate, min, ◌&&◌, set, get_or, Option, Some, None}
 use Rattle.h265_model.specs.declared.Place.TheVariants.{Context, Bypass}
 use Rattle.h265_model.specs.Bits.{digit, u}
 use Rattle.h265_model.specs.Engine.{Engine, Reader, ◌>>=◌, give, refuse, bin}
 use Rattle.h265_model.specs.Binarise.{tr_read, tr_from, fl_read, remaining_read}
 use Rattle.h265_model.specs.Residual as residual
-use Rattle.h265_model.specs.Residual.{place_at, sub_scan, Sub, Known, sig_at, is_implied, greater1_context, greater2_context, counted, last_context, known, known_later, rice_after, signed}
+use Rattle.h265_model.specs.Residual.{place_at, scan, sub_scan, sub_at, flag_context, Sub, Known, sig_at, is_implied, greater1_context, greater2_context, counted, last_context, known, known_later, rice_after, signed}
+use Rattle.std.specs.Int.RustNames.{count_ones}
+use Rattle.bin_items.specs.Square.{place}
 use Rattle.residual_read.specs.declared.shape.Shape.{Shape}
 use Rattle.residual_read.specs.declared.shape.SubBlock.{SubBlock}
 
@@ -126,3 +128,44 @@ GivesWith (Some number) out read new = read ≡ Some ((number, out), new)
 abbrev pub Gives : {A : Type 0} → Option (Unit {0}) → A → Option (A × Engine) → Engine → Type 0
 Gives None out read new = read ≡ None
 Gives (Some _) out read new = read ≡ Some (out, new)
+
+-- the levels with the values of a sub-block put in the places with a flag, of the first k of its scan, from the value with this number on
+unfoldable pub laid : ℕ → ℕ → ℕ × ℕ → ℕ → List ℤ → ℕ → ℕ → List ℤ → List ℤ
+laid kind log2 sub mask values j zero levels = levels
+laid kind log2 sub mask values j (suc k) levels =
+    if mask / 2 ^ k % 2 == 1
+    then laid kind log2 sub mask values (j + 1) k (set levels (place log2 (4 * sub.0 + (place_at (scan kind 2) k).0) (4 * sub.1 + (place_at (scan kind 2) k).1)) (get_or values j (pos 0)))
+    else laid kind log2 sub mask values j k levels
+
+-- the set of contexts of a sub-block's greater1 flags
+abbrev pub set_number : ℕ → ℕ → Bool → ℕ
+set_number component number ended = (if component == 0 && not (number == 0) then 2 else 0) + digit ended
+
+-- a block's levels with those of a sub-block, of which the flags of a number are known and k more come, and whether the counter of greater1 flags
+-- ended at 0 in the latest sub-block with levels
+unfoldable pub sub_with : residual.Shape → Sub → ℕ × ℕ → Bool → Bool → ℕ → ℕ → List ℤ → Reader (Bool × List ℤ)
+sub_with s sub at inner ended known_flags k levels = do
+  mask ← mask_read s sub inner known_flags k
+  found ← values_with s.component (set_number s.component sub.number ended) (min (count_ones mask) 16)
+  give (if mask == 0 then ended else not (found.0 == 0), laid s.scan s.log2 at mask found.1 0 16 levels)
+
+abbrev pub GivesBoth : {A : Type 0} → Option Bool → A → Option ((Bool × A) × Engine) → Engine → Type 0
+GivesBoth None out read new = read ≡ None
+GivesBoth (Some flag) out read new = read ≡ Some ((flag, out), new)
+
+-- the flag of a sub-block before the last one: that of the first one isn't coded
+unfoldable pub coded_read : residual.Shape → Sub → Reader Bool
+coded_read s sub = if sub.number == 0 then give true else bin (Context (flag_context s sub))
+
+-- a block's levels with those of such a sub-block, if it is coded
+unfoldable pub inner_with : residual.Shape → Sub → ℕ × ℕ → Bool → Bool → List ℤ → Reader (Bool × List ℤ)
+inner_with s sub at false ended levels = give (ended, levels)
+inner_with s sub at true ended levels = sub_with s sub at (not (sub.number == 0)) ended 0 16 levels
+
+-- a block's levels with those of the sub-blocks before this number
+unfoldable pub subs_with : residual.Shape → List Bool → Bool → ℕ → List ℤ → Reader (List ℤ)
+subs_with s flags ended zero levels = give levels
+subs_with s flags ended (suc number) levels = do
+  coded ← coded_read s (sub_at s number flags)
+  found ← inner_with s (sub_at s number flags) (place_at (sub_scan s) number) coded ended levels
+  subs_with s (coded ∷ flags) found.0 number found.1

@@ -3,7 +3,9 @@
 
 mod flags;
 mod last;
+mod lay;
 mod shape;
+mod subs;
 mod values;
 
 pub use bin_items::Block;

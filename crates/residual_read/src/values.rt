@@ -170,7 +170,7 @@ fn seen_after(seen: bool, base: u32) -> bool
 }
 
 #[inline(always)]
-fn bit(digits: u32, at: u32) -> bool
+pub(crate) fn bit(digits: u32, at: u32) -> bool
     requires { at < 32 }
     ensures { result ≡ (digits / 2 ^ at % 2 == 1) }
 {
