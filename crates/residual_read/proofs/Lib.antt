@@ -4,3 +4,4 @@ pub mod Coordinates
 pub mod LevelSteps
 pub mod MarkLaws
 pub mod Laying
+pub mod SubSteps

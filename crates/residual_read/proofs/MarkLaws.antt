@@ -7,7 +7,7 @@ use Rattle.h265_model.specs.Residual.{number_of, place_at, scan, sub_scan, sub_a
 use Rattle.std.specs.Prelude.{◌==◌}
 use Rattle.residual_read.specs.declared.shape.Shape.{Shape}
 use Rattle.residual_read.specs.declared.shape.SubBlock.{SubBlock}
-use Rattle.residual_read.specs.Parts.{IsShape, shape_of, sub_of, sub_count}
+use Rattle.residual_read.specs.Parts.{IsShape, IsSubBlock, shape_of, sub_of, sub_count}
 use Rattle.residual_read.specs.Marks.{AreMarks, mark_place}
 use Rattle.residual_code.proofs.Places.{IsPlaced, placed, number_found, scan_long}
 
@@ -109,3 +109,6 @@ marks_more s number x y flags marks flag is few at ex ey long are = record {
 pub not_zero : (n : ℕ) → n ≢ 0 → (n == 0) ≡ false
 not_zero zero h = absurd (h refl)
 not_zero (suc n) h = grind (arith, nat_tests)
+
+pub place_is : (s : Shape) (b : SubBlock) (number : ℕ) → IsSubBlock s b → b.number ≡ number → (b.x ≡ (place_at (sub_scan (shape_of s)) number).0) × (b.y ≡ (place_at (sub_scan (shape_of s)) number).1)
+place_is s b number at e = (at.x ∙ ap (λ n. (place_at (sub_scan (shape_of s)) n).0) e, at.y ∙ ap (λ n. (place_at (sub_scan (shape_of s)) n).1) e)

@@ -2,7 +2,8 @@
 ghost use Rattle.std.specs.Prelude.{◌≡◌, if◌then◌else◌, ◌<◌, ◌≤◌, ◌+◌, ◌*◌, ◌-◌, ◌^◌, List, Bool, IfSome, not, ◌==◌};
 ghost use Rattle.h265_model.specs.Residual.{sub_at};
 ghost use Rattle.cabac_dec.specs.State.{IsOpen, Answers};
-ghost use Rattle.residual_read.specs.Parts.{IsShape, IsSubBlock, shape_of, sub_of, sub_count, set_number, sub_with, coded_read, inner_with, GivesBoth};
+ghost use Rattle.residual_read.specs.Parts.{IsShape, IsSubBlock, shape_of, sub_of, sub_count, set_number, sub_with, coded_read, inner_with, subs_with, Gives, GivesBoth};
+ghost use Rattle.residual_read.specs.Going.{Steps};
 ghost use Rattle.residual_read.specs.Marks.{AreMarks, mark_place};
 
 use crate::flags::read_flags;
@@ -132,4 +133,53 @@ fn read_inner(
         return Some(ended);
     }
     read_levels_of(decoder, shape, sub, sub.number != 0, ended, 0, 16, out)
+}
+
+// Reads a sub-block before the last one.
+fn read_sub(
+    decoder: &mut Decoder,
+    shape: Shape,
+    number: u32,
+    marks: &mut Marks,
+    ended: bool,
+    out: &mut Block,
+) -> Option<bool>
+    requires open { IsOpen decoder.old }
+    requires shape { IsShape shape }
+    requires number { number < sub_count shape }
+    requires side { out.old.log2 ≡ shape.log2 }
+    ensures value { (flags : List Bool) → AreMarks (shape_of shape) (number + 1) flags marks.old → Steps (shape_of shape) flags ended number out.old.levels decoder.old result marks.new out.new.levels decoder.new }
+    ensures open { IfSome result (λ _. IsOpen decoder.new) }
+    ensures side { out.new.log2 ≡ out.old.log2 }
+{
+    let sub = sub_block(shape, number, marks);
+    let coded = read_coded(decoder, shape, sub)?;
+    marks[mark_of(sub.x, sub.y)] = coded;
+    read_inner(decoder, shape, sub, coded, ended, out)
+}
+
+/// Reads the sub-blocks before this number, the last of them first, and puts their levels in their places.
+pub(crate) fn read_subs(
+    decoder: &mut Decoder,
+    shape: Shape,
+    number: u32,
+    marks: &mut Marks,
+    ended: bool,
+    out: &mut Block,
+) -> Option<()>
+    requires open { IsOpen decoder.old }
+    requires shape { IsShape shape }
+    requires number { number < sub_count shape }
+    requires side { out.old.log2 ≡ shape.log2 }
+    ensures value { (flags : List Bool) → AreMarks (shape_of shape) number flags marks.old → Gives result out.new.levels (subs_with (shape_of shape) flags ended number out.old.levels decoder.old) decoder.new }
+    ensures open { IfSome result (λ _. IsOpen decoder.new) }
+    ensures side { out.new.log2 ≡ out.old.log2 }
+{
+    let mut left = number;
+    let mut last = ended;
+    while left > 0 {
+        left -= 1;
+        last = read_sub(decoder, shape, left, marks, last, out)?;
+    }
+    Some(())
 }
