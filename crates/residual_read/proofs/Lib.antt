@@ -5,3 +5,4 @@ pub mod LevelSteps
 pub mod MarkLaws
 pub mod Laying
 pub mod SubSteps
+pub mod FlagReads
