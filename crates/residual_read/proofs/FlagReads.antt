@@ -12,10 +12,10 @@ use Rattle.residual_read.specs.Parts.{mask_read, ones_read}
 abbrev pub valued : ℕ → List Bool × Engine → Option (ℕ × Engine)
 valued m found = Some (value_after m found.0, found.1)
 
-abbrev with_flag : Bool → List Bool × Engine → Option (List Bool × Engine)
+abbrev pub with_flag : Bool → List Bool × Engine → Option (List Bool × Engine)
 with_flag flag found = Some (flag ∷ found.0, found.1)
 
-joined : (m : ℕ) (b : Bool) (o : Option (List Bool × Engine)) → and_then o (valued (2 * m + digit b)) ≡ and_then (and_then o (with_flag b)) (valued m)
+pub joined : (m : ℕ) (b : Bool) (o : Option (List Bool × Engine)) → and_then o (valued (2 * m + digit b)) ≡ and_then (and_then o (with_flag b)) (valued m)
 unfolding value_after
 joined m b None = refl
 joined m b (Some found) = refl

@@ -6,3 +6,4 @@ pub mod MarkLaws
 pub mod Laying
 pub mod SubSteps
 pub mod FlagReads
+pub mod LevelReads

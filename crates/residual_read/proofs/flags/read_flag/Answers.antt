@@ -19,4 +19,3 @@ sig_context-context-requires-clause-y c = rw c.from-2.ensures (place_low c.args.
 pub bin-requires-clause-in_range : goal.bin-requires-clause-in_range
 bin-requires-clause-in_range c =
     rw c.sig_context-context.ensures (sig_low c.args.shape.component c.args.shape.log2 c.args.shape.scan c.args.sub.x c.args.sub.y c.from.result c.from-2.result c.args.sub.right c.args.sub.below)
-
