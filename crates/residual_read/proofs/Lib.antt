@@ -7,3 +7,4 @@ pub mod Laying
 pub mod SubSteps
 pub mod FlagReads
 pub mod LevelReads
+pub mod ValueReads
