@@ -94,16 +94,19 @@ start_left many = omega arith
 
 -- ---- all that is read of a sub-block's levels other than 0
 
-abbrev signs_then : ℕ → ℕ → Bool → ℕ × Engine → Option ((ℕ × List ℤ) × Engine)
-signs_then many ones greater2 found = and_then (levels_at 0 false greater2 ones (min many 8) many found.0 [] found.1) (λ values. Some ((ones, values.0), values.1))
+abbrev pub beside : ℕ → List ℤ × Engine → Option ((ℕ × List ℤ) × Engine)
+beside ones values = Some ((ones, values.0), values.1)
 
-abbrev greater2_then : ℕ → ℕ → Bool × Engine → Option ((ℕ × List ℤ) × Engine)
+abbrev pub signs_then : ℕ → ℕ → Bool → ℕ × Engine → Option ((ℕ × List ℤ) × Engine)
+signs_then many ones greater2 found = and_then (levels_at 0 false greater2 ones (min many 8) many found.0 [] found.1) (beside ones)
+
+abbrev pub greater2_then : ℕ → ℕ → Bool × Engine → Option ((ℕ × List ℤ) × Engine)
 greater2_then many ones found = and_then (fl_read many found.1) (signs_then many ones found.0)
 
-abbrev ones_then : ℕ → ℕ → ℕ → ℕ × Engine → Option ((ℕ × List ℤ) × Engine)
+abbrev pub ones_then : ℕ → ℕ → ℕ → ℕ × Engine → Option ((ℕ × List ℤ) × Engine)
 ones_then component set many found = and_then (second_read component set found.0 found.1) (greater2_then many found.0)
 
-values_open : (component set many : ℕ) (e : Engine) → values_with component set many e ≡ and_then (ones_read component set 1 0 (min many 8) e) (ones_then component set many)
+pub values_open : (component set many : ℕ) (e : Engine) → values_with component set many e ≡ and_then (ones_read component set 1 0 (min many 8) e) (ones_then component set many)
 unfolding values_with
 values_open component set many e = refl
 
@@ -121,13 +124,13 @@ pub values_none4 : (component set many ones signs : ℕ) (g : Bool) (e d f l : E
     → levels_at 0 false g ones (min many 8) many signs [] l ≡ None → values_with component set many e ≡ None
 values_none4 component set many ones signs g e d f l h i j k =
     values_open component set many e ∙ then_some _ _ (ones_then component set many) h ∙ then_some _ _ (greater2_then many ones) i ∙ then_some _ _ (signs_then many ones g) j
-    ∙ then_none _ (λ values. Some ((ones, values.0), values.1)) k
+    ∙ then_none _ (beside ones) k
 
 pub values_all : (component set many ones signs : ℕ) (g : Bool) (values : List ℤ) (e d f l m : Engine) → ones_read component set 1 0 (min many 8) e ≡ Some (ones, d) → second_read component set ones d ≡ Some (g, f)
     → fl_read many f ≡ Some (signs, l) → levels_at 0 false g ones (min many 8) many signs [] l ≡ Some (values, m) → values_with component set many e ≡ Some ((ones, values), m)
 values_all component set many ones signs g values e d f l m h i j k =
     values_open component set many e ∙ then_some _ _ (ones_then component set many) h ∙ then_some _ _ (greater2_then many ones) i ∙ then_some _ _ (signs_then many ones g) j
-    ∙ then_some _ _ (λ values. Some ((ones, values.0), values.1)) k
+    ∙ then_some _ _ (beside ones) k
 
 not_zero : (n : ℕ) → n ≢ 0 → (n == 0) ≡ false
 not_zero zero h = absurd (h refl)

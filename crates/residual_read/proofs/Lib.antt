@@ -8,3 +8,4 @@ pub mod SubSteps
 pub mod FlagReads
 pub mod LevelReads
 pub mod ValueReads
+pub mod SameValues

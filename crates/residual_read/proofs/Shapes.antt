@@ -1,7 +1,7 @@
 -- Where sub-blocks and their levels are.
 use Rattle.std.proofs.Common.{◌≡◌, ◌-◌, ◌^◌, ◌<◌, ◌≤◌, ℕ, arith}
 use Rattle.residual_code.proofs.Places.{IsPlaced, placed}
-use Rattle.residual_read.proofs.ValueReads.{second_same, ones_many}
+use Rattle.residual_read.proofs.SameValues.{values_same}
 use Rattle.residual_read.specs.declared.shape.Shape.{Shape}
 use Rattle.residual_read.specs.declared.shape.SubBlock.{SubBlock}
 use Rattle.residual_read.specs.Parts.{IsShape, IsSubBlock}
