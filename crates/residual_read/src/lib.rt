@@ -13,3 +13,6 @@ mod values;
 pub use bin_items::Block;
 pub use blocks::read_residual;
 pub use cabac_dec::Decoder;
+
+#[cfg(test)]
+mod tests;
