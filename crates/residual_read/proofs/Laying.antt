@@ -59,13 +59,13 @@ side_low log2 h = low (pow_mono {i = log2} {j = 5} h)
 
 -- ---- a sub-block
 
-abbrev values_then : residual.Shape → ℕ × ℕ → Bool → ℕ → List ℤ → (ℕ × List ℤ) × Engine → Option ((Bool × List ℤ) × Engine)
+abbrev pub values_then : residual.Shape → ℕ × ℕ → Bool → ℕ → List ℤ → (ℕ × List ℤ) × Engine → Option ((Bool × List ℤ) × Engine)
 values_then s at ended mask levels found = Some ((if mask == 0 then ended else not (found.0.0 == 0), laid s.scan s.log2 at mask found.0.1 0 16 levels), found.1)
 
-abbrev mask_then : residual.Shape → Sub → ℕ × ℕ → Bool → List ℤ → ℕ × Engine → Option ((Bool × List ℤ) × Engine)
+abbrev pub mask_then : residual.Shape → Sub → ℕ × ℕ → Bool → List ℤ → ℕ × Engine → Option ((Bool × List ℤ) × Engine)
 mask_then s sub at ended levels found = and_then (values_with s.component (set_number s.component sub.number ended) (min (count_ones found.0) 16) found.1) (values_then s at ended found.0 levels)
 
-sub_open : (s : residual.Shape) (sub : Sub) (at : ℕ × ℕ) (inner ended : Bool) (flags k : ℕ) (levels : List ℤ) (e : Engine)
+pub sub_open : (s : residual.Shape) (sub : Sub) (at : ℕ × ℕ) (inner ended : Bool) (flags k : ℕ) (levels : List ℤ) (e : Engine)
     → sub_with s sub at inner ended flags k levels e ≡ and_then (mask_read s sub inner flags k e) (mask_then s sub at ended levels)
 unfolding sub_with
 sub_open s sub at inner ended flags k levels e = refl

@@ -9,3 +9,11 @@ pub mod FlagReads
 pub mod LevelReads
 pub mod ValueReads
 pub mod SameValues
+pub mod Counts
+pub mod Found
+pub mod Backwards
+pub mod LaidLaws
+pub mod RowLaws
+pub mod WholeLaws
+pub mod Tables
+pub mod Starts

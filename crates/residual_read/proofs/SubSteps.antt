@@ -10,13 +10,13 @@ use Rattle.residual_read.specs.Marks.{AreMarks}
 use Rattle.residual_read.specs.Going.{GoesOn, Steps}
 use Rattle.residual_read.proofs.Steps.{then_some, then_none}
 
-abbrev inner_then : residual.Shape → List Bool → ℕ → Bool → (Bool × List ℤ) × Engine → Option (List ℤ × Engine)
+abbrev pub inner_then : residual.Shape → List Bool → ℕ → Bool → (Bool × List ℤ) × Engine → Option (List ℤ × Engine)
 inner_then s flags number coded found = subs_with s (coded ∷ flags) found.0.0 number found.0.1 found.1
 
-abbrev coded_then : residual.Shape → List Bool → Bool → ℕ → List ℤ → Bool × Engine → Option (List ℤ × Engine)
+abbrev pub coded_then : residual.Shape → List Bool → Bool → ℕ → List ℤ → Bool × Engine → Option (List ℤ × Engine)
 coded_then s flags ended number levels found = and_then (inner_with s (sub_at s number flags) (place_at (sub_scan s) number) found.0 ended levels found.1) (inner_then s flags number found.0)
 
-subs_suc : (s : residual.Shape) (flags : List Bool) (ended : Bool) (number : ℕ) (levels : List ℤ) (e : Engine)
+pub subs_suc : (s : residual.Shape) (flags : List Bool) (ended : Bool) (number : ℕ) (levels : List ℤ) (e : Engine)
     → subs_with s flags ended (suc number) levels e ≡ and_then (coded_read s (sub_at s number flags) e) (coded_then s flags ended number levels)
 unfolding subs_with
 subs_suc s flags ended number levels e = refl
@@ -70,7 +70,7 @@ going_none s flags ended from levels e left marks marks' ended' levels' levels''
     ap' : {a b : ℕ} → a ≡ b → AreMarks s a g.now marks → AreMarks s b g.now marks
     ap' e h = rw (← e) h
 
-subs_zero : (s : residual.Shape) (flags : List Bool) (ended : Bool) (levels : List ℤ) (e : Engine) → subs_with s flags ended 0 levels e ≡ Some (levels, e)
+pub subs_zero : (s : residual.Shape) (flags : List Bool) (ended : Bool) (levels : List ℤ) (e : Engine) → subs_with s flags ended 0 levels e ≡ Some (levels, e)
 unfolding subs_with
 subs_zero s flags ended levels e = refl
 

@@ -8,7 +8,8 @@ use Rattle.std.specs.List.{list_any}
 use Rattle.h265_model.specs.declared.Place.TheVariants.{Context}
 use Rattle.h265_model.specs.Bits.{digit, u, value_after, ◌>>=◌ as and_then}
 use Rattle.h265_model.specs.Engine.{Engine, bin, bypass_read, give}
-use Rattle.h265_model.specs.Residual.{has_flag, greater1_read, greater1_context, counted, greater2_read, greater2_context, signs_read, rests_read, known_of, known, known_later}
+use Rattle.h265_model.specs.Residual as residual
+use Rattle.h265_model.specs.Residual.{Sub, sig_read, sig_at, is_implied, has_flag, greater1_read, greater1_context, counted, greater2_read, greater2_context, signs_read, rests_read, known_of, known, known_later}
 use Rattle.residual_read.specs.Parts.{second_read, levels_at, levels_from, unflagged}
 use Rattle.residual_read.proofs.FlagReads.{valued, with_flag, ones_is}
 use Rattle.residual_read.proofs.LevelReads.{levels_are, signs_are, tested}
@@ -70,6 +71,12 @@ pub ones_many : (component set counter n : ℕ) (flags : List Bool) (e d : Engin
 ones_many component set counter zero flags e d h = ap (λ (o : Option (List Bool × Engine)). length (listed o)) (sym h)
 ones_many component set counter (suc n) flags e d h =
     one_more n flags d (λ b f. greater1_read component set (counted counter b) n f) (λ b f fs k. ones_many component set (counted counter b) n fs f d k) (bin (Context (greater1_context component set counter)) e) h
+
+pub sig_many : (s : residual.Shape) (sub : Sub) (inner found : Bool) (n : ℕ) (flags : List Bool) (e d : Engine) → sig_read s sub inner found n e ≡ Some (flags, d) → length flags ≡ n
+sig_many s sub inner found zero flags e d h = ap (λ (o : Option (List Bool × Engine)). length (listed o)) (sym h)
+sig_many s sub inner found (suc n) flags e d h =
+    one_more n flags d (λ b f. sig_read s sub inner (found || b) n f) (λ b f fs k. sig_many s sub inner (found || b) n fs f d k)
+    ((if is_implied inner found n then give true else bin (Context (sig_at s sub n))) e) h
 
 pub signs_many : (n : ℕ) (flags : List Bool) (e d : Engine) → signs_read n e ≡ Some (flags, d) → length flags ≡ n
 signs_many zero flags e d h = ap (λ (o : Option (List Bool × Engine)). length (listed o)) (sym h)
