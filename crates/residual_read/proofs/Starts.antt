@@ -4,7 +4,7 @@ use Rattle.std.specs.Prelude.{ℤ, pos}
 use Rattle.h265_model.specs.Bits.{◌>>=◌ as and_then}
 use Rattle.h265_model.specs.Engine.{Engine}
 use Rattle.h265_model.specs.Residual as residual
-use Rattle.h265_model.specs.Residual.{Sub, place_at, number_of, scan, sub_scan, sub_at, residual_from}
+use Rattle.h265_model.specs.Residual.{Sub, place_at, number_of, scan, sub_scan, sub_at, residual_from, residual_read, last_read}
 use Rattle.bin_items.specs.Square.{area}
 use Rattle.residual_read.specs.declared.shape.Shape.{Shape}
 use Rattle.residual_read.specs.declared.shape.SubBlock.{SubBlock}
@@ -108,4 +108,18 @@ pub from_all : (s : Shape) (place : ℕ × ℕ) (b : SubBlock) (number top : ℕ
 from_all s place b number top levels levels' out ended e d f result is last h given =
     let same : residual_from (shape_of s) place e ≡ subs_with (shape_of s) (true ∷ []) ended number levels' d =
     from_sub s place b number top levels e is last ∙ then_some _ ((ended, levels'), d) (later_then (shape_of s) number) h in
+    subst (λ (r : Option (List ℤ × Engine)). Gives result out r f) (sym same) given
+
+-- ---- the whole block
+
+whole_open : (s : residual.Shape) (e : Engine) → residual_read s e ≡ and_then (last_read s e) (λ found. residual_from s found.0 found.1)
+unfolding residual_read
+whole_open s e = refl
+
+pub whole_none : (s : residual.Shape) (e : Engine) → last_read s e ≡ None → residual_read s e ≡ None
+whole_none s e h = whole_open s e ∙ then_none _ (λ found. residual_from s found.0 found.1) h
+
+pub whole_is : (s : residual.Shape) (place : ℕ × ℕ) (out : List ℤ) (e d f : Engine) (result : Option (Unit {0})) → last_read s e ≡ Some (place, d) → Gives result out (residual_from s place d) f → Gives result out (residual_read s e) f
+whole_is s place out e d f result h given =
+    let same : residual_read s e ≡ residual_from s place d = whole_open s e ∙ then_some _ (place, d) (λ found. residual_from s found.0 found.1) h in
     subst (λ (r : Option (List ℤ × Engine)). Gives result out r f) (sym same) given

@@ -1,5 +1,5 @@
 //! Where the last level other than 0 is.
-ghost use Rattle.std.specs.Prelude.{◌≡◌, ◌<◌, ◌≤◌, ◌+◌, ◌*◌, ◌-◌, ◌^◌, IfSome};
+ghost use Rattle.std.specs.Prelude.{◌≡◌, ◌<◌, ◌≤◌, ◌+◌, ◌*◌, ◌-◌, ◌/◌, ◌^◌, IfSome};
 ghost use Rattle.h265_model.specs.Residual.{coordinate_read};
 ghost use Rattle.h265_model.specs.Residual as residual;
 ghost use Rattle.cabac_dec.specs.State.{IsOpen, Answers};
@@ -35,6 +35,7 @@ fn read_coordinate(decoder: &mut Decoder, prefix: u32) -> Option<u32>
     requires most { prefix ≤ 9 }
     ensures value { Answers result (coordinate_read prefix decoder.old) decoder.new }
     ensures open { IfSome result (λ _. IsOpen decoder.new) }
+    ensures low { IfSome result (λ at. at < 2 ^ (prefix / 2 + 1)) }
 {
     if prefix < 4 {
         return Some(prefix);
@@ -50,6 +51,8 @@ pub(crate) fn read_last(decoder: &mut Decoder, shape: Shape) -> Option<(u32, u32
     requires shape { IsShape shape }
     ensures value { Answers result (residual.last_read (shape_of shape) decoder.old) decoder.new }
     ensures open { IfSome result (λ _. IsOpen decoder.new) }
+    ensures x { IfSome result (λ place. place.0 < 2 ^ shape.log2) }
+    ensures y { IfSome result (λ place. place.1 < 2 ^ shape.log2) }
 {
     let x_prefix = read_prefix(decoder, shape, false)?;
     let y_prefix = read_prefix(decoder, shape, true)?;
