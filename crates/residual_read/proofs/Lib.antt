@@ -17,3 +17,4 @@ pub mod RowLaws
 pub mod WholeLaws
 pub mod Tables
 pub mod Starts
+pub mod CodeReads

@@ -121,7 +121,7 @@ abbrev escape_next : ℕ → ℕ → ℕ → Engine → Bool → Option (ℕ × 
 escape_next sum ones k d true = escape_read (sum + 2 ^ k) ones (suc k) d
 escape_next sum ones k d false = low_read sum k d
 
-abbrev escape_then : ℕ → ℕ → ℕ → Bool × Engine → Option (ℕ × Engine)
+abbrev pub escape_then : ℕ → ℕ → ℕ → Bool × Engine → Option (ℕ × Engine)
 escape_then sum ones k found = escape_next sum ones k found.1 found.0
 
 by_bin : (sum ones k : ℕ) (o : Option (Bool × Engine))
@@ -130,7 +130,7 @@ by_bin sum ones k None = refl
 by_bin sum ones k (Some (true, d)) = refl
 by_bin sum ones k (Some (false, d)) = refl
 
-escape_suc : (sum ones k : ℕ) (e : Engine) → escape_read sum (suc ones) k e ≡ and_then (bypass_read e) (escape_then sum ones k)
+pub escape_suc : (sum ones k : ℕ) (e : Engine) → escape_read sum (suc ones) k e ≡ and_then (bypass_read e) (escape_then sum ones k)
 unfolding escape_read
 escape_suc sum ones k e = by_bin sum ones k (bypass_read e)
 
@@ -159,7 +159,7 @@ abbrev last_next : ℕ → ℕ → Engine → Bool → Option (ℕ × Engine)
 last_next sum k d true = None
 last_next sum k d false = low_read sum k d
 
-abbrev last_then : ℕ → ℕ → Bool × Engine → Option (ℕ × Engine)
+abbrev pub last_then : ℕ → ℕ → Bool × Engine → Option (ℕ × Engine)
 last_then sum k found = last_next sum k found.1 found.0
 
 by_last : (sum k : ℕ) (o : Option (Bool × Engine))
@@ -168,7 +168,7 @@ by_last sum k None = refl
 by_last sum k (Some (true, d)) = refl
 by_last sum k (Some (false, d)) = refl
 
-escape_zero : (sum k : ℕ) (e : Engine) → escape_read sum 0 k e ≡ and_then (bypass_read e) (last_then sum k)
+pub escape_zero : (sum k : ℕ) (e : Engine) → escape_read sum 0 k e ≡ and_then (bypass_read e) (last_then sum k)
 unfolding escape_read
 escape_zero sum k e = by_last sum k (bypass_read e)
 
@@ -304,7 +304,7 @@ last_all s a b x y e d f g i h j k l = last_open s e ∙ then_some _ _ (last1 s)
 
 -- ---- an escape is that of the definitions
 
-abbrev added : ℕ → ℕ × Engine → Option (ℕ × Engine)
+abbrev pub added : ℕ → ℕ × Engine → Option (ℕ × Engine)
 added sum found = Some (sum + found.0, found.1)
 
 added_twice : (sum p : ℕ) (o : Option (ℕ × Engine)) → and_then o (added (sum + p)) ≡ and_then (and_then o (added p)) (added sum)

@@ -1,5 +1,5 @@
 -- What the parts of the code read, each as its loop goes, with numbers whose digits are the flags read so far.
-use Rattle.std.specs.Prelude.{◌≡◌, ◌≤◌, ◌<◌, ℕ, zero, suc, ◌+◌, ◌*◌, ◌/◌, ◌-◌, ◌^◌, ◌%◌, Bool, true, false, not, ◌||◌, List, [], ◌∷◌, ◌++◌, ◌==◌, nat_le, if◌then◌else◌, ℤ, pos, replicate, min, ◌&&◌, set, get_or, Option, Some, None}
+use Rattle.std.specs.Prelude.{◌≡◌, ◌≤◌, ◌<◌, ℕ, zero, suc, ◌+◌, ◌*◌, ◌/◌, ◌-◌, ◌^◌, ◌%◌, Bool, true, false, not, ◌||◌, List, [], ◌∷◌, ◌++◌, ◌==◌, nat_le, nat_lt, if◌then◌else◌, ℤ, pos, replicate, min, ◌&&◌, set, get_or, Option, Some, None}
 use Rattle.h265_model.specs.declared.Place.TheVariants.{Context, Bypass}
 use Rattle.h265_model.specs.Bits.{digit, u}
 use Rattle.h265_model.specs.Engine.{Engine, Reader, ◌>>=◌, give, refuse, bin}
@@ -66,6 +66,10 @@ escape_read sum zero k = do
 escape_read sum (suc ones) k = do
   b ← bin Bypass
   if b then escape_read (sum + 2 ^ k) ones (suc k) else (fl_read k >>= λ low. give (sum + low))
+
+-- the least rest whose prefix has so many ones, in units of 2 to the Rice parameter
+abbrev pub least_rest : ℕ → ℕ
+least_rest ones = if nat_lt ones 4 then ones else 2 + 2 ^ (ones - 3)
 
 abbrev pub known_as : ℕ → Bool → Known
 known_as base more = record { base = base; has_remaining = more }

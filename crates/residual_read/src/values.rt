@@ -1,9 +1,9 @@
 //! The sizes and signs of a sub-block's levels other than 0, in the order of coding.
-ghost use Rattle.std.specs.Prelude.{◌≡◌, ◌<◌, ◌≤◌, ◌+◌, ◌*◌, ◌-◌, ◌^◌, ◌==◌, if◌then◌else◌, min, IfSome, length, false, true, replicate, ◌++◌, [], nat_lt, ◌||◌, ◌/◌, ◌%◌};
+ghost use Rattle.std.specs.Prelude.{◌≡◌, ◌<◌, ◌≤◌, ◌+◌, ◌*◌, ◌-◌, ◌^◌, ◌==◌, if◌then◌else◌, min, IfSome, length, false, true, replicate, ◌++◌, [], nat_lt, ◌||◌, ◌/◌, ◌%◌, Some};
 ghost use Rattle.h265_model.specs.Bits.{u};
-ghost use Rattle.h265_model.specs.Binarise.{tr_read, remaining_read, eg_read};
+ghost use Rattle.h265_model.specs.Binarise.{tr_read, fl_read, remaining_read, eg_read};
 ghost use Rattle.h265_model.specs.Residual as residual;
-ghost use Rattle.cabac_dec.specs.State.{IsOpen, Answers};
+ghost use Rattle.cabac_dec.specs.State.{IsOpen, Answers, Shows};
 ghost use Rattle.residual_read.specs.Parts.{ones_read, escape_read, four_from, size_read, known_as, next_known, Gives, GivesWith, levels_at, second_read, values_with};
 ghost use Rattle.residual_read.specs.Parts as parts;
 
@@ -81,8 +81,64 @@ fn read_escape(decoder: &mut Decoder, k: u32) -> Option<u32>
     Some(sum + low)
 }
 
-// Reads coeff_abs_level_remaining (9.3.3.11).
+// How many ones are in front of 20 digits.
+#[inline(always)]
+fn ones_before(digits: u32) -> u32
+    requires { digits < 1048576 }
+    ensures most { result ≤ 20 }
+    ensures front { result < 20 → digits / 2 ^ (19 - result) + 2 ≡ 2 * 2 ^ result }
+{
+    (2 * (1048575 - digits) + 1).leading_zeros() - 11
+}
+
+// The least rest whose prefix has so many ones, in units of 2 to the Rice parameter.
+#[inline(always)]
+fn least_rest(ones: u32) -> u32
+    requires { ones ≤ 11 }
+    ensures value { result ≡ parts.least_rest ones }
+    ensures low { result ≤ 258 }
+{
+    if ones < 4 { ones } else { 2 + (1 << (ones - 3)) }
+}
+
+// Reads coeff_abs_level_remaining, whose code has so many ones in front and at most 20 bins, from those that come.
+#[inline(always)]
+fn read_code(decoder: &mut Decoder, rice: u32, digits: u32, ones: u32) -> u32
+    requires open { IsOpen decoder.old }
+    requires rice { rice ≤ 4 }
+    requires known { Shows (Some digits) (fl_read 20 decoder.old) }
+    requires few { 2 * ones + rice ≤ 22 }
+    requires front { digits / 2 ^ (19 - ones) + 2 ≡ 2 * 2 ^ ones }
+    ensures value { remaining_read rice decoder.old ≡ Some (result, decoder.new) }
+    ensures open { IsOpen decoder.new }
+    ensures low { result < 4194304 }
+{
+    let low = rice + ones.saturating_sub(3);
+    let code = decoder.skip(ones + 1 + low, 20, digits);
+    (least_rest(ones) << rice) + code % (1 << low)
+}
+
+// Reads coeff_abs_level_remaining (9.3.3.11): where 20 bins are there and its code has no more, they are looked at together.
+#[inline(always)]
 fn read_remaining(decoder: &mut Decoder, rice: u32) -> Option<u32>
+    requires open { IsOpen decoder.old }
+    requires rice { rice ≤ 4 }
+    ensures value { Answers result (remaining_read rice decoder.old) decoder.new }
+    ensures open { IfSome result (λ _. IsOpen decoder.new) }
+    ensures low { IfSome result (λ rest. rest < 4194304) }
+{
+    let Some(digits) = decoder.peek(20) else {
+        return read_bins(decoder, rice);
+    };
+    let ones = ones_before(digits);
+    if 2 * ones + rice > 22 {
+        return read_bins(decoder, rice);
+    }
+    Some(read_code(decoder, rice, digits, ones))
+}
+
+// Reads coeff_abs_level_remaining bin by bin.
+fn read_bins(decoder: &mut Decoder, rice: u32) -> Option<u32>
     requires open { IsOpen decoder.old }
     requires rice { rice ≤ 4 }
     ensures value { Answers result (remaining_read rice decoder.old) decoder.new }
