@@ -18,3 +18,4 @@ pub mod WholeLaws
 pub mod Tables
 pub mod Starts
 pub mod CodeReads
+pub mod SigTable
