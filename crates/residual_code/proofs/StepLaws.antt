@@ -7,7 +7,7 @@ use Rattle.residual_code.specs.declared.shape.Shape.{Shape}
 use Rattle.residual_code.specs.declared.shape.SubBlock.{SubBlock}
 use Rattle.residual_code.specs.Parts.{IsShape, IsSubBlock, shape_of, sub_count, sub_tile, sub_levels, tile_levels, flag_part, level_part, sub_part, coded_at}
 use Rattle.residual_code.proofs.Zeros.{any_level}
-use Rattle.residual_code.proofs.Places.{IsPlaced, placed}
+use Rattle.scan_orders.proofs.ScanPlaces.{IsPlaced, placed}
 
 pub x_at : (s : Shape) (b : SubBlock) (number : ℕ) → IsSubBlock s b → b.number ≡ number → b.x ≡ (place_at (sub_scan (shape_of s)) number).0
 x_at s b number at e = at.x ∙ ap (λ n. (place_at (sub_scan (shape_of s)) n).0) e

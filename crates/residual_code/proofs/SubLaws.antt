@@ -9,7 +9,7 @@ use Rattle.h265_model.specs.Residual.{scan, sub_scan, place_at, number_of, level
 use Rattle.residual_code.specs.Parts.{down, tile_at, tile_levels, sub_tile, sub_levels, sub_part, coded_at}
 use Rattle.residual_code.proofs.Zeros.{any_level, none_of}
 use Rattle.residual_code.proofs.Down.{length-down, down_first, down_none}
-use Rattle.residual_code.proofs.Places.{number_found, covered, scan_long}
+use Rattle.scan_orders.proofs.ScanPlaces.{number_found, covered, scan_long}
 use Rattle.residual_code.proofs.Tiles.{none_down}
 
 map_same : {A B : Type 0} (f g : A → B) (xs : List A) → ((x : A) → f x ≡ g x) → map f xs ≡ map g xs

@@ -2,7 +2,6 @@ pub mod Steps
 pub mod Shapes
 pub mod Coordinates
 pub mod LevelSteps
-pub mod MarkLaws
 pub mod Laying
 pub mod SubSteps
 pub mod FlagReads
@@ -11,7 +10,6 @@ pub mod ValueReads
 pub mod SameValues
 pub mod Counts
 pub mod Found
-pub mod Backwards
 pub mod LaidLaws
 pub mod RowLaws
 pub mod WholeLaws

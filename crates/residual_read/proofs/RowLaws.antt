@@ -14,8 +14,8 @@ use Rattle.h265_model.proofs.ByteLaws.{u-value}
 use Rattle.h265_model.proofs.Squares.{at_places, length_places, places_are, same_places}
 use Rattle.bin_items.specs.Square.{area}
 use Rattle.residual_read.specs.Parts.{laid}
-use Rattle.residual_code.proofs.Places.{IsPlaced, placed, number_found, scan_long}
-use Rattle.residual_read.proofs.Backwards.{backwards}
+use Rattle.scan_orders.proofs.ScanPlaces.{IsPlaced, placed, number_found, scan_long}
+use Rattle.scan_orders.proofs.Backwards.{backwards}
 use Rattle.residual_read.proofs.Laying.{inside}
 use Rattle.residual_read.proofs.LaidLaws.{at_place, laid_long, laid_other, laid_here, AreApart}
 

@@ -10,7 +10,7 @@ use Rattle.residual_read.specs.declared.shape.Shape.{Shape}
 use Rattle.residual_read.specs.declared.shape.SubBlock.{SubBlock}
 use Rattle.residual_read.specs.Parts.{IsShape, IsSubBlock, shape_of, sub_of, sub_count, sub_with, subs_with, Gives}
 use Rattle.residual_read.specs.Whole.{numbers_of}
-use Rattle.residual_read.proofs.Backwards.{there}
+use Rattle.scan_orders.proofs.Backwards.{there}
 use Rattle.residual_read.proofs.Tables.{number_at}
 use Rattle.residual_read.proofs.RowLaws.{IsWhole, quarter}
 use Rattle.residual_read.proofs.WholeLaws.{from_is, later_then}

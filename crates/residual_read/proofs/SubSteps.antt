@@ -6,7 +6,7 @@ use Rattle.h265_model.specs.Engine.{Engine}
 use Rattle.h265_model.specs.Residual as residual
 use Rattle.h265_model.specs.Residual.{place_at, sub_scan, sub_at, Sub}
 use Rattle.residual_read.specs.Parts.{subs_with, coded_read, inner_with, GivesBoth}
-use Rattle.residual_read.specs.Marks.{AreMarks}
+use Rattle.scan_orders.specs.Marks.{AreMarks}
 use Rattle.residual_read.specs.Going.{GoesOn, Steps}
 use Rattle.residual_read.proofs.Steps.{then_some, then_none}
 

@@ -4,7 +4,7 @@ use Rattle.std.proofs.lemmas.List.FromFn.{get_or-map-range_with_len}
 use Rattle.h265_model.specs.Residual.{scan, number_of}
 use Rattle.residual_read.specs.Whole.{numbers_of}
 use Rattle.residual_read.specs.declared.numbers.TheConstants.{DIAGONAL_4, DIAGONAL_8, HORIZONTAL_4, HORIZONTAL_8, VERTICAL_4, VERTICAL_8}
-use Rattle.residual_read.proofs.Backwards.{IsNumbered, numbered}
+use Rattle.scan_orders.proofs.Backwards.{IsNumbered, numbered}
 
 pub diagonal_4 : DIAGONAL_4 ≡ numbers_of 0 2
 unfolding scan

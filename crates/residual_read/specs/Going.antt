@@ -3,7 +3,7 @@ use Rattle.std.specs.Prelude.{◌≡◌, ℕ, ◌+◌, Bool, List, ◌∷◌, �
 use Rattle.h265_model.specs.Engine.{Engine}
 use Rattle.h265_model.specs.Residual as residual
 use Rattle.residual_read.specs.Parts.{subs_with}
-use Rattle.residual_read.specs.Marks.{AreMarks}
+use Rattle.scan_orders.specs.Marks.{AreMarks}
 
 -- the reading of the sub-blocks before a number goes on as that before another one
 pub record GoesOn (s : residual.Shape) (flags : List Bool) (ended : Bool) (from : ℕ) (levels : List ℤ) (e : Engine) (to : ℕ) (marks : List Bool) (ended' : Bool) (levels' : List ℤ) (d : Engine) : Type 0 where

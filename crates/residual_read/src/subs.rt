@@ -4,7 +4,7 @@ ghost use Rattle.h265_model.specs.Residual.{sub_at};
 ghost use Rattle.cabac_dec.specs.State.{IsOpen, Answers};
 ghost use Rattle.residual_read.specs.Parts.{IsShape, IsSubBlock, shape_of, sub_of, sub_count, set_number, sub_with, coded_read, inner_with, subs_with, Gives, GivesBoth};
 ghost use Rattle.residual_read.specs.Going.{Steps};
-ghost use Rattle.residual_read.specs.Marks.{AreMarks, mark_place};
+ghost use Rattle.scan_orders.specs.Marks.{AreMarks, mark_place};
 
 use crate::flags::read_flags;
 use crate::lay::lay;

@@ -3,8 +3,9 @@ use Rattle.std.specs.Prelude.{ℤ, pos}
 use Rattle.h265_model.specs.Residual.{sub_at}
 use Rattle.bin_items.specs.Square.{Square}
 use Rattle.residual_read.specs.Parts.{shape_of, sub_of}
-use Rattle.residual_read.specs.Marks.{AreMarks, mark_place}
-use Rattle.residual_read.proofs.MarkLaws.{is_sub, place_is, marks_none, marks_more}
+use Rattle.scan_orders.specs.Marks.{AreMarks, mark_place}
+use Rattle.scan_orders.proofs.MarkLaws.{is_sub, marks_none, marks_more}
+use Rattle.residual_read.proofs.Shapes.{place_is}
 use Rattle.residual_read.proofs.Starts.{IsStart, IsLast, is_start, index_below, room, from_none, from_all}
 use Rattle.residual_read.proofs.blocks.read_from.Goals as goal
 
@@ -35,28 +36,28 @@ pub mark_of-requires-clause-x : goal.mark_of-requires-clause-x
 mark_of-requires-clause-x c =
     let few = (is_start c.args.shape c.args.place c.numbers.result.now c.numbers-2.result.now c.from-number.result c.from-top.result c.requires.shape c.requires.x c.requires.y c.numbers.ensures.value c.from-number.ensures c.numbers-2.ensures.value c.from-top.ensures).few in
     let p = place_is c.args.shape c.sub_block-sub.result c.from-number.result c.sub_block-sub.ensures.place c.sub_block-sub.ensures.number in
-    let at = (is_sub c.args.shape c.from-number.result c.sub_block-sub.result.x c.sub_block-sub.result.y c.requires.shape few p.0 p.1).wide in omega arith
+    let at = (is_sub (shape_of c.args.shape) c.from-number.result c.sub_block-sub.result.x c.sub_block-sub.result.y c.requires.shape.low c.requires.shape.high few p.0 p.1).wide in omega arith
 
 pub mark_of-requires-clause-y : goal.mark_of-requires-clause-y
 mark_of-requires-clause-y c =
     let few = (is_start c.args.shape c.args.place c.numbers.result.now c.numbers-2.result.now c.from-number.result c.from-top.result c.requires.shape c.requires.x c.requires.y c.numbers.ensures.value c.from-number.ensures c.numbers-2.ensures.value c.from-top.ensures).few in
     let p = place_is c.args.shape c.sub_block-sub.result c.from-number.result c.sub_block-sub.ensures.place c.sub_block-sub.ensures.number in
-    let at = (is_sub c.args.shape c.from-number.result c.sub_block-sub.result.x c.sub_block-sub.result.y c.requires.shape few p.0 p.1).tall in omega arith
+    let at = (is_sub (shape_of c.args.shape) c.from-number.result c.sub_block-sub.result.x c.sub_block-sub.result.y c.requires.shape.low c.requires.shape.high few p.0 p.1).tall in omega arith
 
 pub bounds-marks-mark_of : goal.bounds-marks-mark_of
 bounds-marks-mark_of c =
     let few = (is_start c.args.shape c.args.place c.numbers.result.now c.numbers-2.result.now c.from-number.result c.from-top.result c.requires.shape c.requires.x c.requires.y c.numbers.ensures.value c.from-number.ensures c.numbers-2.ensures.value c.from-top.ensures).few in
     let p = place_is c.args.shape c.sub_block-sub.result c.from-number.result c.sub_block-sub.ensures.place c.sub_block-sub.ensures.number in
-    let s = is_sub c.args.shape c.from-number.result c.sub_block-sub.result.x c.sub_block-sub.result.y c.requires.shape few p.0 p.1 in
+    let s = is_sub (shape_of c.args.shape) c.from-number.result c.sub_block-sub.result.x c.sub_block-sub.result.y c.requires.shape.low c.requires.shape.high few p.0 p.1 in
     let w = s.wide in let t = s.tall in rw c.mark_of.ensures (omega arith)
 
 pub returns-clause-value : goal.returns-clause-value
 returns-clause-value c =
     let start = is_start c.args.shape c.args.place c.numbers.result.now c.numbers-2.result.now c.from-number.result c.from-top.result c.requires.shape c.requires.x c.requires.y c.numbers.ensures.value c.from-number.ensures c.numbers-2.ensures.value c.from-top.ensures in
     let p = place_is c.args.shape c.sub_block-sub.result c.from-number.result c.sub_block-sub.ensures.place c.sub_block-sub.ensures.number in
-    let s = is_sub c.args.shape c.from-number.result c.sub_block-sub.result.x c.sub_block-sub.result.y c.requires.shape start.few p.0 p.1 in
+    let s = is_sub (shape_of c.args.shape) c.from-number.result c.sub_block-sub.result.x c.sub_block-sub.result.y c.requires.shape.low c.requires.shape.high start.few p.0 p.1 in
     let long : length (replicate 81 false) ≡ 81 = search rules in
     from_all c.args.shape c.args.place c.sub_block-sub.result c.from-number.result c.from-top.result c.args.out.now.levels c.read_levels_of.new.out.levels c.read_subs.new.out.levels c.in_ok-ended.ended c.args.decoder.now c.read_levels_of.new.decoder c.read_subs.new.decoder c.read_subs.result c.requires.shape
     (record { start = start; sub = c.sub_block-sub.ensures.known [] (marks_none (shape_of c.args.shape) (c.from-number.result + 1)); x = p.0; y = p.1; zeros = ap (λ (b : Square). b.levels) c.requires.zeros })
     c.in_ok-ended.ensures.value
-    (c.read_subs.ensures.value (true ∷ []) (rw c.mark_of.ensures (marks_more c.args.shape c.from-number.result c.sub_block-sub.result.x c.sub_block-sub.result.y [] (replicate 81 false) true c.requires.shape start.few s p.0 p.1 long (marks_none (shape_of c.args.shape) (c.from-number.result + 1)))))
+    (c.read_subs.ensures.value (true ∷ []) (rw c.mark_of.ensures (marks_more (shape_of c.args.shape) c.from-number.result c.sub_block-sub.result.x c.sub_block-sub.result.y [] (replicate 81 false) true c.requires.shape.low c.requires.shape.high start.few s p.0 p.1 long (marks_none (shape_of c.args.shape) (c.from-number.result + 1)))))

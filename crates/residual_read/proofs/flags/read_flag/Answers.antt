@@ -1,7 +1,7 @@
 use Rattle.std.proofs.Common.{ap, get_or}
-use Rattle.residual_code.proofs.Bounds.{sig_low}
+use Rattle.scan_orders.proofs.Bounds.{sig_low}
 use Rattle.residual_read.proofs.Shapes.{sub_low}
-use Rattle.residual_code.proofs.FlagLaws.{place_low}
+use Rattle.scan_orders.proofs.ScanPlaces.{place_low}
 use Rattle.residual_read.proofs.flags.read_flag.Goals as goal
 
 pub sig_context-context-requires-clause-sub_x : goal.sig_context-context-requires-clause-sub_x

@@ -1,5 +1,5 @@
 use Rattle.std.proofs.Common.{◌∙◌, ◌*◌, ◌-◌, Some, ap, arith}
-use Rattle.residual_code.proofs.Bounds.{last_low}
+use Rattle.scan_orders.proofs.Bounds.{last_low}
 use Rattle.residual_read.specs.Parts.{shape_of}
 use Rattle.residual_read.proofs.Steps.{prefix_more, prefix_end, prefix_none, prefix_full}
 use Rattle.residual_read.proofs.last.read_prefix.Goals as goal

@@ -1,5 +1,5 @@
 use Rattle.std.proofs.Common.{ap, get_or, ◌+◌, ◌*◌, ◌^◌, ◌<◌, arith}
-use Rattle.residual_code.proofs.FlagLaws.{place_low}
+use Rattle.scan_orders.proofs.ScanPlaces.{place_low}
 use Rattle.residual_read.proofs.Laying.{inside, side_low}
 use Rattle.residual_read.proofs.lay.put.Goals as goal
 

@@ -1,4 +1,4 @@
-use Rattle.residual_code.proofs.Bounds.{sub_block_low}
+use Rattle.scan_orders.proofs.Bounds.{sub_block_low}
 use Rattle.residual_read.specs.Parts.{shape_of, sub_of}
 use Rattle.residual_read.proofs.Laying.{coded_first, coded_is}
 use Rattle.residual_read.proofs.subs.read_coded.Goals as goal

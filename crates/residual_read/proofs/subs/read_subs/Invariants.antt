@@ -1,7 +1,7 @@
 use Rattle.std.proofs.Common.{◌≡◌, ◌≤◌, List, Bool}
 use Rattle.cabac_dec.specs.State.{IsOpen}
 use Rattle.residual_read.specs.Parts.{shape_of}
-use Rattle.residual_read.specs.Marks.{AreMarks}
+use Rattle.scan_orders.specs.Marks.{AreMarks}
 use Rattle.residual_read.specs.Going.{GoesOn}
 use Rattle.residual_read.proofs.subs.read_subs.Given as goal
 

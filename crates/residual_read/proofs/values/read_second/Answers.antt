@@ -1,4 +1,4 @@
-use Rattle.residual_code.proofs.Bounds.{greater2_low}
+use Rattle.scan_orders.proofs.Bounds.{greater2_low}
 use Rattle.residual_read.proofs.LevelSteps.{second_none, second_is}
 use Rattle.residual_read.proofs.values.read_second.Goals as goal
 

@@ -3,7 +3,6 @@ use Rattle.std.proofs.Common.{◌≡◌, refl, sym, ◌∙◌, ap, ℕ, zero, su
 use Rattle.std.specs.Prelude.{◌==◌}
 use Rattle.std.proofs.lemmas.Bool.{agree_below, agree_below_at, eqb-true}
 use Rattle.h265_model.specs.Residual.{scan, number_of}
-use Rattle.residual_code.proofs.Places.{covered}
 
 -- the numbers of a place, forwards and backwards, are as many as there are but one
 turns : ℕ → ℕ → ℕ → Bool
