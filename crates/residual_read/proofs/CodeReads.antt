@@ -286,6 +286,7 @@ front_by digits zeros j h e a b =
         let v : 1048576 ≡ 2 ^ (zeros - 11) * (2 ^ k * 2) = w ∙ ap (λ i. 2 ^ (zeros - 11) * i) p in
         let u : 2 ^ (zeros - 11) * (2 ^ k * 2) ≡ 2 * (2 ^ (zeros - 11) * 2 ^ k) = turned (2 ^ (zeros - 11)) (2 ^ k) in
         quotient digits (1048575 - digits) (2 ^ k) (2 ^ (zeros - 11)) (omega arith) (v ∙ u) (omega arith) (omega arith) (pow_pos (zeros - 11))
+
 pub front_is : (digits : ℕ) → digits < 1048576 → HasOnes digits (count_leading_zeros 32 (2 * (1048575 - digits) + 1))
 front_is digits h =
     let t = leading_top 32 (2 * (1048575 - digits) + 1) (omega arith) (low (2 * (1048575 - digits) + 1) (omega arith)) in

@@ -59,7 +59,9 @@ sizes_are r (k ∷ ks) e d sizes h =
     let p : ((k.base + a.x.0) ∷ b.x.0, b.x.1) ≡ (sizes, d) = same_some ((k.base + a.x.0) ∷ b.x.0, b.x.1) (sizes, d) b.second in
     let rest : AreSizes ks b.x.0 = sizes_are (if k.has_remaining then rice_after r (k.base + a.x.0) else r) ks a.x.1 b.x.1 b.x.0 b.first in
     subst (AreSizes (k ∷ ks)) (ap (λ (y : List ℕ × Engine). y.0) p) (
-      (omega arith, λ none. let z = none_rest k r e a.x a.first none in omega arith), rest)
+      (omega arith, λ none. let z = none_rest k r e a.x a.first none in omega arith),
+      rest,
+    )
 
 sizes_many : (ks : List Known) (sizes : List ℕ) → AreSizes ks sizes → length sizes ≡ length ks
 sizes_many [] [] h = refl

@@ -102,9 +102,9 @@ spread_step : (kind log2 : ℕ) (sub : ℕ × ℕ) (mask : ℕ) (values : List �
     → IsSpread kind log2 sub mask values k → (b : Bool)
     → get_or (by_flag b kind log2 sub mask values j k levels) (at_place kind log2 sub i) (pos 0) ≡ get_or (spread (b ∷ u k mask) (drop j values)) (suc k - 1 - i) (pos 0)
 spread_step kind log2 sub mask values j k i levels few h apart zeros is b = elim (eq-or-lt_of_le (le h)) [
-    | inl e ↦ here b e
-    | inr lt ↦ there b lt
-  ]
+  | inl e ↦ here b e
+  | inr lt ↦ there b lt
+]
   where
     le : i < suc k → i ≤ k
     le h = omega arith

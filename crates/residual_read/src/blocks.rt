@@ -13,12 +13,7 @@ use bin_items::Block;
 use cabac_dec::Decoder;
 
 // Reads a block of zeros from its last level on, whose place is known.
-fn read_from(
-    decoder: &mut Decoder,
-    shape: Shape,
-    place: (u32, u32),
-    out: &mut Block,
-) -> Option<()>
+fn read_from(decoder: &mut Decoder, shape: Shape, place: (u32, u32), out: &mut Block) -> Option<()>
     requires open { IsOpen decoder.old }
     requires shape { IsShape shape }
     requires x { place.0 < 2 ^ shape.log2 }
@@ -29,7 +24,9 @@ fn read_from(
     ensures side { out.new.log2 ≡ out.old.log2 }
 {
     let down = shape.log2 - 2;
-    let number = u32::from(numbers(shape.scan, down)[(((place.1 / 4) << down) + place.0 / 4) as usize]);
+    let number = u32::from(
+        numbers(shape.scan, down)[(((place.1 / 4) << down) + place.0 / 4) as usize],
+    );
     let top = u32::from(numbers(shape.scan, 2)[(4 * (place.1 % 4) + place.0 % 4) as usize]);
     let mut marks = [false; 81];
     let sub = sub_block(shape, number, &marks);

@@ -65,7 +65,12 @@ fn made_up(log2: u32, many: u32, size: u32, seed: u32) -> Block
     for _ in 0..many {
         state = state.wrapping_mul(1664525).wrapping_add(1013904223);
         let level = ((state >> 20) % size + 1) as i16;
-        set_at(&mut block, state >> 8, state >> 14, if state >> 31 == 1 { -level } else { level });
+        set_at(
+            &mut block,
+            state >> 8,
+            state >> 14,
+            if state >> 31 == 1 { -level } else { level },
+        );
     }
     block
 }
@@ -93,7 +98,14 @@ fn blocks_come_back(rt: HostRuntime) -> Result<(), Fail> {
 }
 
 // Reads a block over another one, and compares its levels, each by its column, its row and the level.
-fn expect(rt: &impl Abort, bytes: &[u8], component: u32, log2: u32, scan: u32, levels: &[(u32, u32, i16)])
+fn expect(
+    rt: &impl Abort,
+    bytes: &[u8],
+    component: u32,
+    log2: u32,
+    scan: u32,
+    levels: &[(u32, u32, i16)],
+)
     requires component { component < 3 }
     requires low { 3 ≤ log2 }
     requires high { log2 ≤ 5 }
@@ -111,9 +123,64 @@ fn expect(rt: &impl Abort, bytes: &[u8], component: u32, log2: u32, scan: u32, l
 #[test]
 fn reads_blocks_of_a_model(rt: HostRuntime) -> Result<(), Fail> {
     expect(&rt, &[0x31, 0x48, 0xE2, 0xD8, 0xE0], 0, 3, 1, &[(3, 4, -1)]);
-    expect(&rt, &[0xFE, 0xFF, 0xA2, 0x6B, 0xFF, 0xEB, 0x22, 0xF4, 0xFA, 0x7F, 0x16, 0x7A, 0x2A, 0x38, 0x25, 0x5B, 0xD1, 0xC2, 0xC0], 1, 3, 2, &[(0, 0, 255), (7, 7, -255), (5, 2, 1), (6, 2, -2), (4, 3, 3), (1, 6, 17)]);
-    expect(&rt, &[0x23, 0x0C, 0x44, 0xF9, 0x6D, 0x23, 0x95, 0xE3, 0x45, 0xCB, 0xB0, 0x28, 0x1B, 0xC9, 0x44, 0x1F, 0xF0], 0, 5, 0, &[(31, 31, -7), (0, 31, 2), (31, 0, -1), (16, 15, 130)]);
-    expect(&rt, &[0xFE, 0xFF, 0xFF, 0x1B, 0x54, 0xA3, 0xFF, 0xFF, 0xC9, 0xCE, 0xCB, 0x8B, 0xC3, 0xCC, 0xF8, 0x60, 0x97, 0x78, 0x25, 0xDC, 0x19, 0x13, 0xF0], 2, 4, 0, &[(0, 0, 1), (0, 1, -5), (0, 2, 9), (0, 3, -13), (1, 0, -2), (1, 1, 6), (1, 2, -10), (1, 3, 14), (2, 0, 3), (2, 1, -7), (2, 2, 11), (2, 3, -15), (3, 0, -4), (3, 1, 8), (3, 2, -12), (3, 3, 16), (15, 15, 1)]);
+    expect(
+        &rt,
+        &[
+            0xFE, 0xFF, 0xA2, 0x6B, 0xFF, 0xEB, 0x22, 0xF4, 0xFA, 0x7F, 0x16, 0x7A, 0x2A, 0x38,
+            0x25, 0x5B, 0xD1, 0xC2, 0xC0,
+        ],
+        1,
+        3,
+        2,
+        &[
+            (0, 0, 255),
+            (7, 7, -255),
+            (5, 2, 1),
+            (6, 2, -2),
+            (4, 3, 3),
+            (1, 6, 17),
+        ],
+    );
+    expect(
+        &rt,
+        &[
+            0x23, 0x0C, 0x44, 0xF9, 0x6D, 0x23, 0x95, 0xE3, 0x45, 0xCB, 0xB0, 0x28, 0x1B, 0xC9,
+            0x44, 0x1F, 0xF0,
+        ],
+        0,
+        5,
+        0,
+        &[(31, 31, -7), (0, 31, 2), (31, 0, -1), (16, 15, 130)],
+    );
+    expect(
+        &rt,
+        &[
+            0xFE, 0xFF, 0xFF, 0x1B, 0x54, 0xA3, 0xFF, 0xFF, 0xC9, 0xCE, 0xCB, 0x8B, 0xC3, 0xCC,
+            0xF8, 0x60, 0x97, 0x78, 0x25, 0xDC, 0x19, 0x13, 0xF0,
+        ],
+        2,
+        4,
+        0,
+        &[
+            (0, 0, 1),
+            (0, 1, -5),
+            (0, 2, 9),
+            (0, 3, -13),
+            (1, 0, -2),
+            (1, 1, 6),
+            (1, 2, -10),
+            (1, 3, 14),
+            (2, 0, 3),
+            (2, 1, -7),
+            (2, 2, 11),
+            (2, 3, -15),
+            (3, 0, -4),
+            (3, 1, 8),
+            (3, 2, -12),
+            (3, 3, 16),
+            (15, 15, 1),
+        ],
+    );
     Ok(())
 }
 
@@ -137,7 +204,10 @@ fn reads_and_refuses_sizes(rt: HostRuntime) -> Result<(), Fail> {
 
 #[test]
 fn refuses_bins_that_end(rt: HostRuntime) -> Result<(), Fail> {
-    let bytes = [0xFE, 0xFF, 0xA2, 0x6B, 0xFF, 0xEB, 0x22, 0xF4, 0xFA, 0x7F, 0x16, 0x7A, 0x2A, 0x38, 0x25, 0x5B, 0xD1, 0xC2, 0xC0];
+    let bytes = [
+        0xFE, 0xFF, 0xA2, 0x6B, 0xFF, 0xEB, 0x22, 0xF4, 0xFA, 0x7F, 0x16, 0x7A, 0x2A, 0x38, 0x25,
+        0x5B, 0xD1, 0xC2, 0xC0,
+    ];
     let mut out = Block::zero(3);
     for many in 0..bytes.len() {
         assert!(rt; !is_read(&bytes[..many], 1, 2, &mut out), "{many} bytes");

@@ -98,7 +98,11 @@ fn least_rest(ones: u32) -> u32
     ensures value { result ≡ parts.least_rest ones }
     ensures low { result ≤ 258 }
 {
-    if ones < 4 { ones } else { 2 + (1 << (ones - 3)) }
+    if ones < 4 {
+        ones
+    } else {
+        2 + (1 << (ones - 3))
+    }
 }
 
 // Reads coeff_abs_level_remaining, whose code has so many ones in front and at most 20 bins, from those that come.
