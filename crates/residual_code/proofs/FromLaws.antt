@@ -2,7 +2,7 @@
 use Rattle.std.proofs.Common.{◌≡◌, refl, sym, ℕ, zero, suc, ◌+◌, ◌-◌, ◌*◌, ◌^◌, ◌<◌, ◌≤◌, Bool, true, false, List, [], ◌∷◌, ◌++◌, set, replicate, arith}
 use Rattle.std.specs.Prelude.{ℤ}
 use Rattle.h265_model.specs.Residual as residual
-use Rattle.h265_model.specs.Residual.{Sub, scan, place_at, sub_at, from_last, last_items, place_of, sig_items, value_items, set_of, nonzero, ended_at_zero, sub_items, without_leading_zeros}
+use Rattle.h265_model.specs.Residual.{Sub, scan, place_at, sub_at, from_last, last_items, place_of, sig_items, value_items, set_of, nonzero, ended_at_zero, sub_items}
 use Rattle.residual_code.specs.declared.shape.Shape.{Shape}
 use Rattle.residual_code.specs.declared.shape.SubBlock.{SubBlock}
 use Rattle.residual_code.specs.Parts.{IsShape, IsSubBlock, shape_of, tile_at, tile_levels, has_members, down}

@@ -2,7 +2,7 @@
 use Rattle.std.proofs.Common.{◌≡◌, refl, sym, ◌∙◌, ap, ℕ, zero, suc, ◌-◌, ◌^◌, ◌<◌, ◌≤◌, Bool, true, false, cond, not, ◌||◌, List, [], ◌∷◌, ◌++◌, arith}
 use Rattle.std.specs.Prelude.{ℤ, pos, negsuc}
 use Rattle.h265_model.specs.Residual as residual
-use Rattle.h265_model.specs.Residual.{Sub, sub_at, sub_scan, place_at, nonzero, ended_at_zero, cbf, is_zero}
+use Rattle.h265_model.specs.Residual.{Sub, sub_scan, place_at, nonzero, ended_at_zero, cbf}
 use Rattle.residual_code.specs.declared.shape.Shape.{Shape}
 use Rattle.residual_code.specs.declared.shape.SubBlock.{SubBlock}
 use Rattle.residual_code.specs.Parts.{IsShape, IsSubBlock, shape_of, sub_count, sub_tile, sub_levels, tile_levels, flag_part, level_part, sub_part, coded_at}

@@ -1,12 +1,12 @@
 -- Remaining levels, by the digits of bins that were read at once.
-use Rattle.std.proofs.Common.{◌≡◌, refl, sym, ◌∙◌, ap, subst, ℕ, zero, suc, ◌+◌, ◌-◌, ◌*◌, ◌/◌, ◌%◌, ◌^◌, ◌<◌, ◌≤◌, Bool, true, false, Some, None, Option, List, [], ◌∷◌, length, pow-suc, pow_mono, mod-lt, arith}
+use Rattle.std.proofs.Common.{◌≡◌, refl, sym, ◌∙◌, ap, subst, ℕ, zero, suc, ◌+◌, ◌-◌, ◌*◌, ◌/◌, ◌%◌, ◌^◌, ◌<◌, ◌≤◌, Bool, true, false, Some, Option, length, pow-suc, pow_mono, mod-lt, arith}
 use Rattle.std.proofs.Math.Nat.{div-div-eq-div-mul, lt_of_not-le, mul-le-mul_left}
 use Rattle.std.proofs.lemmas.Bool.{ltb-true, ltb-false, lt-ltb, le-ltb}
 use Rattle.std.proofs.lemmas.Nat.{pow-add, div-mul-add, leading_top, div-add-mod', pow_pos}
 use Rattle.std.specs.Int.Count.{count_leading_zeros}
 use Rattle.std.specs.Prelude.{nat_lt, if◌then◌else◌}
 use Rattle.h265_model.specs.declared.Place.TheVariants.{Bypass}
-use Rattle.h265_model.specs.Bits.{digit, value_after, ◌>>=◌ as and_then}
+use Rattle.h265_model.specs.Bits.{digit, value_after}
 use Rattle.h265_model.specs.Engine.{Engine, bypass_read}
 use Rattle.h265_model.specs.Binarise.{tr_from, fl_from, fl_read, remaining_read}
 use Rattle.h265_model.specs.Residual.{signs_read}
@@ -14,7 +14,7 @@ use Rattle.h265_model.proofs.ByteLaws.{value_below}
 use Rattle.cabac_dec.proofs.Parts.{in_front}
 use Rattle.residual_read.specs.Parts.{four_from, escape_read, least_rest}
 use Rattle.residual_read.proofs.FlagReads.{valued}
-use Rattle.residual_read.proofs.Found.{InTwo, in_two}
+use Rattle.residual_read.proofs.Found.{in_two}
 use Rattle.residual_read.proofs.LevelReads.{signs_are}
 use Rattle.residual_read.proofs.Steps.{then_some, fl_below, short_some, long_some, escape_zero, escape_suc, escape_then, last_then, added}
 use Rattle.residual_read.proofs.ValueReads.{signs_many}

@@ -1,12 +1,12 @@
 -- How many flags are 1, and what is told of the counter of greater1 flags.
-use Rattle.std.proofs.Common.{◌≡◌, refl, sym, ◌∙◌, ap, ℕ, zero, suc, ◌+◌, ◌*◌, ◌^◌, ◌<◌, ◌≤◌, Bool, true, false, not, List, [], ◌∷◌, length, map, arith}
+use Rattle.std.proofs.Common.{◌≡◌, refl, sym, ◌∙◌, ap, ℕ, suc, ◌+◌, ◌*◌, ◌^◌, ◌<◌, ◌≤◌, Bool, true, false, not, List, [], ◌∷◌, length, map, arith}
 use Rattle.std.proofs.lemmas.Bool.Decides.{nat_tests}
 use Rattle.std.proofs.lemmas.Nat.{ones_cat, ones-le}
-use Rattle.std.specs.Prelude.{◌==◌, ◌||◌, if◌then◌else◌, ℤ, pos, negsuc, nat_abs, min, cond}
+use Rattle.std.specs.Prelude.{◌==◌, if◌then◌else◌, ℤ, nat_abs, min, cond}
 use Rattle.std.specs.Int.RustNames.{count_ones}
 use lib.Count.{ones-ones}
 use Rattle.h265_model.specs.Bits.{digit, value_after}
-use Rattle.h265_model.specs.Residual.{many_of, has_flag, counted_all, counted, spread, nonzero, is_zero, ended_at_zero, greater1_flags}
+use Rattle.h265_model.specs.Residual.{many_of, has_flag, counted_all, spread, nonzero, is_zero, ended_at_zero, greater1_flags}
 use Rattle.residual_read.proofs.ValueReads.{flags_zero}
 
 none_set : count_ones 0 ≡ 0

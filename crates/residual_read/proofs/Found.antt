@@ -1,10 +1,10 @@
 -- What is known of the levels other than 0 that are read.
-use Rattle.std.proofs.Common.{◌≡◌, refl, sym, ◌∙◌, ap, subst, ℕ, zero, suc, ◌+◌, ◌-◌, ◌*◌, ◌<◌, ◌≤◌, Bool, true, false, not, Some, None, Option, List, [], ◌∷◌, ◌++◌, length, length-append, map, arith}
+use Rattle.std.proofs.Common.{◌≡◌, refl, sym, ◌∙◌, ap, subst, ℕ, zero, suc, ◌+◌, ◌-◌, ◌≤◌, Bool, true, false, Some, None, Option, List, [], ◌∷◌, ◌++◌, length, length-append, map, arith}
 use Rattle.std.proofs.lemmas.Bool.Decides.{nat_tests}
 use Rattle.std.proofs.lemmas.List.{length-replicate}
-use Rattle.std.specs.Prelude.{if◌then◌else◌, ℤ, pos, negsuc, neg_ℤ, nat_abs, min, replicate, nat_lt, nat_le}
+use Rattle.std.specs.Prelude.{if◌then◌else◌, ℤ, nat_abs, min, replicate, nat_lt, nat_le}
 use Rattle.std.specs.List.{list_all}
-use Rattle.h265_model.specs.Bits.{digit, value_after, ◌>>=◌ as and_then}
+use Rattle.h265_model.specs.Bits.{value_after, ◌>>=◌ as and_then}
 use Rattle.h265_model.specs.Engine.{Engine, give}
 use Rattle.h265_model.specs.Binarise.{remaining_read, fl_read}
 use Rattle.h265_model.specs.Residual.{Known, known, known_later, known_of, rests_read, rice_after, signs_read, greater1_read, signed, signed_all, is_zero, greater1_flags}

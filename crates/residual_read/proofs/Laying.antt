@@ -1,5 +1,5 @@
 -- Levels in their places.
-use Rattle.std.proofs.Common.{◌≡◌, ◌≢◌, refl, sym, ◌∙◌, ap, ℕ, zero, suc, ◌+◌, ◌-◌, ◌*◌, ◌/◌, ◌%◌, ◌^◌, ◌<◌, ◌≤◌, Bool, true, false, cond, not, Some, None, Option, List, [], ◌∷◌, get_or, set, pow-suc, pow_mono, arith}
+use Rattle.std.proofs.Common.{◌≡◌, ◌≢◌, refl, sym, ◌∙◌, ap, ℕ, suc, ◌+◌, ◌-◌, ◌*◌, ◌/◌, ◌%◌, ◌^◌, ◌<◌, ◌≤◌, Bool, true, false, not, Some, None, Option, List, get_or, set, pow-suc, pow_mono, arith}
 use Rattle.std.specs.Prelude.{◌==◌, if◌then◌else◌, ℤ, pos, min}
 use Rattle.std.specs.Int.RustNames.{count_ones}
 use Rattle.h265_model.specs.Bits.{◌>>=◌ as and_then}

@@ -1,13 +1,13 @@
 -- Levels read one by one are those of the definitions, whose sizes are tested after them all.
-use Rattle.std.proofs.Common.{◌≡◌, refl, sym, ◌∙◌, ap, ℕ, zero, suc, ◌+◌, ◌*◌, Bool, true, false, not, Some, None, Option, List, [], ◌∷◌, ◌++◌, length, append_assoc, arith}
-use Rattle.std.specs.Prelude.{◌==◌, ◌&&◌, nat_le, if◌then◌else◌, ℤ}
+use Rattle.std.proofs.Common.{◌≡◌, refl, sym, ◌∙◌, ap, ℕ, zero, suc, ◌+◌, ◌*◌, Bool, true, false, Some, None, Option, List, [], ◌∷◌, ◌++◌, length, append_assoc, arith}
+use Rattle.std.specs.Prelude.{◌&&◌, nat_le, if◌then◌else◌, ℤ}
 use Rattle.std.specs.List.{list_all}
 use Rattle.h265_model.specs.Bits.{digit, value_after, ◌>>=◌ as and_then}
 use Rattle.h265_model.specs.Binarise.{remaining_read, fl_from}
 use Rattle.h265_model.specs.Engine.{Engine, bypass_read, give}
 use Rattle.h265_model.specs.Residual.{Known, rests_read, signs_read, signed, signed_all, rice_after}
-use Rattle.residual_read.specs.Parts.{levels_from, size_read}
-use Rattle.residual_read.proofs.FlagReads.{valued, with_flag, joined, mask_is, ones_is}
+use Rattle.residual_read.specs.Parts.{levels_from}
+use Rattle.residual_read.proofs.FlagReads.{valued, with_flag, joined}
 
 abbrev pub within : ℕ → Bool
 within size = nat_le size 255

@@ -1,12 +1,12 @@
 -- One level of a sub-block.
-use Rattle.std.proofs.Common.{◌≡◌, ◌≢◌, refl, sym, ◌∙◌, ap, ℕ, zero, suc, ◌+◌, ◌-◌, ◌*◌, ◌/◌, ◌%◌, ◌^◌, ◌<◌, ◌≤◌, Bool, true, false, not, Some, None, Option, List, [], ◌∷◌, ◌++◌, arith}
+use Rattle.std.proofs.Common.{◌≡◌, ◌≢◌, refl, sym, ◌∙◌, ap, ℕ, zero, suc, ◌+◌, ◌-◌, ◌/◌, ◌%◌, ◌^◌, ◌<◌, ◌≤◌, Bool, true, false, Some, None, Option, List, [], ◌∷◌, ◌++◌, arith}
 use Rattle.std.proofs.lemmas.Bool.Decides.{nat_tests}
-use Rattle.std.specs.Prelude.{◌==◌, ◌||◌, nat_lt, nat_le, if◌then◌else◌, replicate, ℤ, min}
-use Rattle.h265_model.specs.Bits.{digit, u, ◌>>=◌ as and_then}
+use Rattle.std.specs.Prelude.{◌==◌, ◌||◌, nat_lt, if◌then◌else◌, replicate, ℤ, min}
+use Rattle.h265_model.specs.Bits.{u, ◌>>=◌ as and_then}
 use Rattle.h265_model.specs.Binarise.{fl_read}
 use Rattle.h265_model.specs.declared.Place.TheVariants.{Context}
 use Rattle.h265_model.specs.Engine.{Engine, bin}
-use Rattle.h265_model.specs.Residual.{Known, known, known_later, rice_after, signed, greater2_context}
+use Rattle.h265_model.specs.Residual.{Known, known, rice_after, signed, greater2_context}
 use Rattle.residual_read.specs.Parts.{known_after, known_one, known_as, next_known, unflagged, levels_from, levels_at, size_read, values_with, second_read, ones_read}
 use Rattle.residual_read.proofs.Steps.{then_some, then_none}
 

@@ -1,5 +1,5 @@
 -- All that is read of a sub-block's levels other than 0 is what the definitions read.
-use Rattle.std.proofs.Common.{◌≡◌, refl, sym, ◌∙◌, ap, ℕ, Bool, true, false, Some, None, Option, List, [], length, arith}
+use Rattle.std.proofs.Common.{◌≡◌, refl, ◌∙◌, ap, ℕ, Bool, true, false, Some, None, Option, List, [], length, arith}
 use Rattle.std.specs.Prelude.{nat_le, if◌then◌else◌, ℤ, min}
 use Rattle.std.specs.List.{list_all}
 use Rattle.h265_model.specs.Bits.{value_after, ◌>>=◌ as and_then}

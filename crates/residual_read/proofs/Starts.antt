@@ -8,7 +8,7 @@ use Rattle.h265_model.specs.Residual.{Sub, place_at, number_of, scan, sub_scan, 
 use Rattle.bin_items.specs.Square.{area}
 use Rattle.residual_read.specs.declared.shape.Shape.{Shape}
 use Rattle.residual_read.specs.declared.shape.SubBlock.{SubBlock}
-use Rattle.residual_read.specs.Parts.{IsShape, IsSubBlock, shape_of, sub_of, sub_count, sub_with, subs_with, Gives}
+use Rattle.residual_read.specs.Parts.{IsShape, shape_of, sub_of, sub_count, sub_with, subs_with, Gives}
 use Rattle.residual_read.specs.Whole.{numbers_of}
 use Rattle.scan_orders.proofs.Backwards.{there}
 use Rattle.residual_read.proofs.Tables.{number_at}

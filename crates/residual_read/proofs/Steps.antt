@@ -1,5 +1,5 @@
 -- One step of each loop.
-use Rattle.std.proofs.Common.{◌≡◌, refl, sym, ◌∙◌, ap, ℕ, zero, suc, ◌+◌, ◌-◌, ◌*◌, ◌/◌, ◌%◌, ◌^◌, ◌<◌, ◌≤◌, Bool, true, false, not, Some, None, Option, pow-suc, pow_mono, arith}
+use Rattle.std.proofs.Common.{◌≡◌, refl, sym, ◌∙◌, ap, ℕ, zero, suc, ◌+◌, ◌-◌, ◌*◌, ◌%◌, ◌^◌, ◌<◌, ◌≤◌, Bool, true, false, not, Some, None, Option, pow-suc, pow_mono, arith}
 use Rattle.std.proofs.lemmas.Bool.{lt-ltb}
 use Rattle.std.proofs.lemmas.Bool.Decides.{nat_tests}
 use Rattle.std.specs.Prelude.{◌==◌, nat_lt, if◌then◌else◌}
@@ -7,7 +7,7 @@ use Rattle.h265_model.specs.declared.Place.{Place}
 use Rattle.h265_model.specs.declared.Place.TheVariants.{Context, Bypass}
 use Rattle.h265_model.specs.Bits.{digit, ◌>>=◌ as and_then}
 use Rattle.h265_model.specs.Binarise.{fl_from, fl_read, tr_from, eg_from, eg_read, remaining_read}
-use Rattle.h265_model.specs.Engine.{Engine, Reader, ◌>>=◌, bin, bypass_read, give, refuse}
+use Rattle.h265_model.specs.Engine.{Engine, ◌>>=◌, bin, bypass_read, give, refuse}
 use Rattle.h265_model.specs.Residual as residual
 use Rattle.h265_model.specs.Residual.{sig_at, is_implied, Sub, greater1_context, counted}
 use Rattle.residual_read.specs.Parts.{mask_read, ones_read, escape_read, four_from, prefix_from}

@@ -1,18 +1,17 @@
 -- All that is read of a sub-block's levels other than 0 is what the definitions read.
-use Rattle.std.proofs.Common.{◌≡◌, refl, sym, ◌∙◌, ap, ℕ, zero, suc, ◌+◌, ◌-◌, ◌*◌, ◌≤◌, Bool, true, false, not, Some, None, Option, List, [], ◌∷◌, ◌++◌, length, length-append, arith}
+use Rattle.std.proofs.Common.{◌≡◌, refl, sym, ◌∙◌, ap, ℕ, zero, suc, ◌+◌, ◌-◌, ◌*◌, Bool, true, false, not, Some, None, Option, List, [], ◌∷◌, ◌++◌, length, length-append, arith}
 use Rattle.std.proofs.lemmas.List.{length-replicate}
 use Rattle.h265_model.proofs.ByteLaws.{u-value}
 use Rattle.std.proofs.lemmas.Bool.Decides.{nat_tests}
-use Rattle.std.specs.Prelude.{◌==◌, ◌||◌, if◌then◌else◌, ℤ, min, replicate}
-use Rattle.std.specs.List.{list_any}
+use Rattle.std.specs.Prelude.{◌==◌, ◌||◌, if◌then◌else◌, min, replicate}
 use Rattle.h265_model.specs.declared.Place.TheVariants.{Context}
-use Rattle.h265_model.specs.Bits.{digit, u, value_after, ◌>>=◌ as and_then}
+use Rattle.h265_model.specs.Bits.{u, value_after, ◌>>=◌ as and_then}
 use Rattle.h265_model.specs.Engine.{Engine, bin, bypass_read, give}
 use Rattle.h265_model.specs.Residual as residual
 use Rattle.h265_model.specs.Residual.{Sub, sig_read, sig_at, is_implied, has_flag, greater1_read, greater1_context, counted, greater2_read, greater2_context, signs_read, rests_read, known_of, known, known_later}
 use Rattle.residual_read.specs.Parts.{second_read, levels_at, levels_from, unflagged}
-use Rattle.residual_read.proofs.FlagReads.{valued, with_flag, ones_is}
-use Rattle.residual_read.proofs.LevelReads.{levels_are, signs_are, tested}
+use Rattle.residual_read.proofs.FlagReads.{with_flag}
+use Rattle.residual_read.proofs.LevelReads.{levels_are, tested}
 
 suc_some : (m : ℕ) → (2 * m + 1 == 0) ≡ false
 suc_some m = grind (arith, nat_tests)

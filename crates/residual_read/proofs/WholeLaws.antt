@@ -1,16 +1,16 @@
 -- Blocks that are read by sub-blocks into their places are those of the definitions.
-use Rattle.std.proofs.Common.{◌≡◌, refl, sym, ◌∙◌, ap, ℕ, zero, suc, ◌+◌, ◌-◌, ◌*◌, ◌/◌, ◌%◌, ◌^◌, ◌<◌, ◌≤◌, Bool, true, false, not, Some, None, Option, List, [], ◌∷◌, ◌++◌, length, length-append, append_assoc, replicate, arith}
+use Rattle.std.proofs.Common.{◌≡◌, refl, sym, ◌∙◌, ap, ℕ, zero, suc, ◌+◌, ◌-◌, ◌*◌, ◌/◌, ◌%◌, ◌<◌, ◌≤◌, Bool, true, false, not, Some, None, Option, List, [], ◌∷◌, ◌++◌, length, length-append, append_assoc, replicate, arith}
 use Rattle.std.proofs.lemmas.List.{append-nil, length-replicate}
-use Rattle.std.specs.Prelude.{◌==◌, ◌||◌, if◌then◌else◌, ℤ, pos, min}
+use Rattle.std.specs.Prelude.{◌==◌, if◌then◌else◌, ℤ, pos, min}
 use Rattle.std.specs.Int.RustNames.{count_ones}
 use Rattle.h265_model.specs.declared.Place.TheVariants.{Context}
 use Rattle.h265_model.specs.Bits.{digit, value_after, ◌>>=◌ as and_then}
 use Rattle.h265_model.specs.Engine.{Engine, bin, give}
 use Rattle.h265_model.specs.Residual as residual
-use Rattle.h265_model.specs.Residual.{Sub, place_at, number_of, scan, sub_scan, sub_at, flag_context, in_rows, spread, zeros, nonzero, many_of, is_implied, sig_at, sig_read, values_read, levels_read, subs_read, residual_from, set_of, ended_at_zero}
+use Rattle.h265_model.specs.Residual.{Sub, place_at, number_of, scan, sub_scan, sub_at, flag_context, in_rows, spread, zeros, nonzero, many_of, sig_read, values_read, levels_read, subs_read, residual_from, set_of, ended_at_zero}
 use Rattle.bin_items.specs.Square.{area}
 use Rattle.residual_read.specs.Parts.{sub_with, values_with, set_number, coded_read, inner_with, subs_with, laid}
-use Rattle.residual_read.proofs.FlagReads.{valued, mask_is, with_flag}
+use Rattle.residual_read.proofs.FlagReads.{valued, mask_is}
 use Rattle.residual_read.proofs.Counts.{mask_none, many_is, ended_is}
 use Rattle.residual_read.proofs.Found.{AreFound, values_found}
 use Rattle.residual_read.proofs.SameValues.{values_same, levels_alone}

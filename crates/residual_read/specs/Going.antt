@@ -1,5 +1,5 @@
 -- One sub-block before the last one.
-use Rattle.std.specs.Prelude.{◌≡◌, ℕ, ◌+◌, Bool, List, ◌∷◌, ℤ, Option, Some, None}
+use Rattle.std.specs.Prelude.{◌≡◌, ℕ, ◌+◌, Bool, List, ℤ, Option, Some, None}
 use Rattle.h265_model.specs.Engine.{Engine}
 use Rattle.h265_model.specs.Residual as residual
 use Rattle.residual_read.specs.Parts.{subs_with}

@@ -1,9 +1,9 @@
 -- What the parts of the code read, each as its loop goes, with numbers whose digits are the flags read so far.
-use Rattle.std.specs.Prelude.{◌≡◌, ◌≤◌, ◌<◌, ℕ, zero, suc, ◌+◌, ◌*◌, ◌/◌, ◌-◌, ◌^◌, ◌%◌, Bool, true, false, not, ◌||◌, List, [], ◌∷◌, ◌++◌, ◌==◌, nat_le, nat_lt, if◌then◌else◌, ℤ, pos, replicate, min, ◌&&◌, set, get_or, Option, Some, None}
+use Rattle.std.specs.Prelude.{◌≡◌, ◌≤◌, ◌<◌, ℕ, zero, suc, ◌+◌, ◌*◌, ◌/◌, ◌-◌, ◌^◌, ◌%◌, Bool, true, false, not, List, [], ◌∷◌, ◌++◌, ◌==◌, nat_le, nat_lt, if◌then◌else◌, ℤ, pos, replicate, min, ◌&&◌, set, get_or, Option, Some, None}
 use Rattle.h265_model.specs.declared.Place.TheVariants.{Context, Bypass}
 use Rattle.h265_model.specs.Bits.{digit, u}
 use Rattle.h265_model.specs.Engine.{Engine, Reader, ◌>>=◌, give, refuse, bin}
-use Rattle.h265_model.specs.Binarise.{tr_read, tr_from, fl_read, remaining_read}
+use Rattle.h265_model.specs.Binarise.{tr_from, fl_read, remaining_read}
 use Rattle.h265_model.specs.Residual as residual
 use Rattle.h265_model.specs.Residual.{place_at, scan, sub_scan, sub_at, flag_context, Sub, Known, sig_at, is_implied, greater1_context, greater2_context, counted, last_context, known, known_later, rice_after, signed}
 use Rattle.std.specs.Int.RustNames.{count_ones}

@@ -1,12 +1,9 @@
-use Rattle.std.proofs.Common.{◌≡◌, ◌∙◌, ap, length, ◌+◌, ◌-◌, ◌*◌, ◌/◌, true, false, List, [], ◌∷◌, ℕ, replicate, arith, rules}
-use Rattle.std.specs.Prelude.{ℤ, pos}
-use Rattle.h265_model.specs.Residual.{sub_at}
+use Rattle.std.proofs.Common.{◌≡◌, ap, length, ◌+◌, ◌-◌, true, false, [], ◌∷◌, replicate, arith, rules}
 use Rattle.bin_items.specs.Square.{Square}
-use Rattle.residual_read.specs.Parts.{shape_of, sub_of}
-use Rattle.scan_orders.specs.Marks.{AreMarks, mark_place}
+use Rattle.residual_read.specs.Parts.{shape_of}
 use Rattle.scan_orders.proofs.MarkLaws.{is_sub, marks_none, marks_more}
 use Rattle.residual_read.proofs.Shapes.{place_is}
-use Rattle.residual_read.proofs.Starts.{IsStart, IsLast, is_start, index_below, room, from_none, from_all}
+use Rattle.residual_read.proofs.Starts.{is_start, index_below, room, from_none, from_all}
 use Rattle.residual_read.proofs.blocks.read_from.Goals as goal
 
 pub bounds-numbers-place : goal.bounds-numbers-place

@@ -1,4 +1,4 @@
-use Rattle.std.proofs.Common.{◌≡◌, ◌∙◌, sym, ap, subst, ◌+◌, ◌-◌, not, Option, Bool, ℕ}
+use Rattle.std.proofs.Common.{◌≡◌, ◌∙◌, sym, ap, subst, ◌+◌, ◌-◌, not, Option, Bool}
 use Rattle.std.specs.Prelude.{◌==◌}
 use Rattle.h265_model.specs.Engine.{Engine}
 use Rattle.h265_model.specs.Residual.{sig_at, sig_context, place_at, scan}

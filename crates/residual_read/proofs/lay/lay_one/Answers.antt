@@ -1,9 +1,7 @@
-use Rattle.std.proofs.Common.{sym, ◌∙◌, ◌≡◌, ◌+◌, ◌*◌, ap, get_or, set, List, rules, w16}
+use Rattle.std.proofs.Common.{sym, ◌∙◌, ◌+◌, ◌*◌, ap, set, rules, w16}
 use Rattle.std.proofs.lemmas.Int.{to_z-of_z}
-use Rattle.std.specs.Prelude.{ℤ, pos}
 use Rattle.h265_model.specs.Residual.{place_at, scan}
 use Rattle.bin_items.specs.Square.{Square, place}
-use Rattle.residual_read.specs.Parts.{laid}
 use Rattle.residual_read.proofs.Laying.{laid_one, laid_none, laid_as}
 use Rattle.residual_read.proofs.lay.lay_one.Goals as goal
 

@@ -1,4 +1,4 @@
-use Rattle.std.proofs.Common.{ap, get_or, ◌+◌, ◌*◌, ◌^◌, ◌<◌, arith}
+use Rattle.std.proofs.Common.{ap, get_or, arith}
 use Rattle.scan_orders.proofs.ScanPlaces.{place_low}
 use Rattle.residual_read.proofs.Laying.{inside, side_low}
 use Rattle.residual_read.proofs.lay.put.Goals as goal

@@ -1,4 +1,4 @@
-use Rattle.std.proofs.Common.{◌≡◌, arith}
+use Rattle.std.proofs.Common.{arith}
 use Rattle.residual_read.specs.declared.numbers.TheConstants.{DIAGONAL_4, DIAGONAL_8, HORIZONTAL_4, HORIZONTAL_8, VERTICAL_4, VERTICAL_8}
 use Rattle.residual_read.proofs.Tables.{diagonal_4, diagonal_8, horizontal_4, horizontal_8, vertical_4, vertical_8, numbers_as}
 use Rattle.residual_read.proofs.numbers.numbers.Goals as goal

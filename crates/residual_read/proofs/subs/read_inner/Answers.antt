@@ -1,4 +1,4 @@
-use Rattle.std.proofs.Common.{refl, not}
+use Rattle.std.proofs.Common.{refl}
 use Rattle.residual_read.specs.Parts.{shape_of, sub_of}
 use Rattle.residual_read.proofs.Laying.{inner_none, inner_is}
 use Rattle.residual_read.proofs.subs.read_inner.Goals as goal

@@ -1,4 +1,4 @@
-use Rattle.std.proofs.Common.{ap, ◌∙◌, []}
+use Rattle.std.proofs.Common.{ap, ◌∙◌}
 use Rattle.residual_read.specs.Parts.{shape_of, sub_of, laid}
 use Rattle.residual_read.proofs.Shapes.{sub_low}
 use Rattle.residual_read.proofs.Laying.{sub_none1, sub_none2, sub_all}

@@ -1,5 +1,4 @@
-use Rattle.std.proofs.Common.{◌≡◌, ◌∙◌, ap, length, ℕ, List, arith, rules}
-use Rattle.h265_model.specs.Residual.{place_at, sub_scan}
+use Rattle.std.proofs.Common.{◌≡◌, length, arith, rules}
 use Rattle.residual_read.specs.Parts.{shape_of, sub_of}
 use Rattle.scan_orders.proofs.MarkLaws.{is_sub, marks_more}
 use Rattle.residual_read.proofs.Shapes.{place_is}

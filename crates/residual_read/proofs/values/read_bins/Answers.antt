@@ -1,4 +1,4 @@
-use Rattle.std.proofs.Common.{◌∙◌, ◌+◌, ◌*◌, ◌%◌, ◌^◌, Some, ap, arith}
+use Rattle.std.proofs.Common.{arith}
 use Rattle.residual_read.proofs.Steps.{remaining_none, short_none, long_none, short_some, long_some, fl_below, shifted_is, shifted_low}
 use Rattle.residual_read.proofs.values.read_bins.Goals as goal
 

@@ -1,4 +1,4 @@
-use Rattle.std.proofs.Common.{◌≡◌, ◌∙◌, sym, ap, Some, ◌+◌, ◌-◌, ◌*◌, ◌%◌, ◌^◌, arith}
+use Rattle.std.proofs.Common.{◌+◌, ◌-◌, arith}
 use Rattle.residual_read.proofs.CodeReads.{code_read, low_power, least_fits}
 use Rattle.residual_read.proofs.values.read_code.Goals as goal
 

@@ -1,4 +1,4 @@
-use Rattle.std.proofs.Common.{◌-◌, ◌≡◌, ◌≤◌, ◌<◌, ◌+◌, ◌*◌, ◌^◌}
+use Rattle.std.proofs.Common.{◌-◌, ◌≡◌, ◌<◌, ◌+◌, ◌^◌}
 use Rattle.cabac_dec.specs.State.{IsOpen}
 use Rattle.residual_read.specs.Parts.{escape_read}
 use Rattle.residual_read.proofs.values.read_escape.Given as goal

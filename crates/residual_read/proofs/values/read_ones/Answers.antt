@@ -1,4 +1,4 @@
-use Rattle.std.proofs.Common.{◌∙◌, ◌*◌, ◌+◌, ap, arith, pow-suc, pow-add}
+use Rattle.std.proofs.Common.{◌∙◌, ◌*◌, ◌+◌, ap, arith}
 use Rattle.scan_orders.proofs.Bounds.{greater1_low}
 use Rattle.residual_read.proofs.Steps.{ones_more, ones_none, ones_full, next_below}
 use Rattle.residual_read.proofs.values.read_ones.Goals as goal

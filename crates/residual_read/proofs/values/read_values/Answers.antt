@@ -1,7 +1,4 @@
-use Rattle.std.proofs.Common.{◌≡◌, ◌∙◌, ap, [], min, Some, None, Option, List, false}
-use Rattle.std.specs.Prelude.{ℤ}
-use Rattle.h265_model.specs.Engine.{Engine}
-use Rattle.residual_read.specs.Parts.{levels_at, ones_read}
+use Rattle.std.proofs.Common.{min}
 use Rattle.residual_read.proofs.LevelSteps.{values_none1, values_none2, values_none3, values_none4, values_all}
 use Rattle.residual_read.proofs.values.read_values.Goals as goal
 
