@@ -10,7 +10,7 @@ use Rattle.residual_code.specs.declared.shape.Shape.{Shape}
 use Rattle.residual_code.specs.declared.shape.SubBlock.{SubBlock}
 use Rattle.residual_code.specs.Parts.{shape_of, sub_of, IsShape, IsSubBlock, tile_at, tile_levels, has_members, sig_part, down}
 use Rattle.residual_code.proofs.Down.{length-down, down_first, down_none}
-use Rattle.residual_code.proofs.Places.{IsPlaced, placed}
+use Rattle.scan_orders.proofs.ScanPlaces.{IsPlaced, placed}
 
 pub sub_low : (s : Shape) (b : SubBlock) → IsShape s → IsSubBlock s b → (b.x < 2 ^ (s.log2 - 2)) × (b.y < 2 ^ (s.log2 - 2))
 sub_low s b is at =
@@ -69,10 +69,6 @@ room_more v before after left some e h = rw e (go v)
 pub no_members : (values : List ℤ) → not (length values == 0) ≡ has_members values
 no_members [] = refl
 no_members (v ∷ values) = let e : (suc (length values) == 0) ≡ false = grind (arith, nat_tests) in rw e refl
-
--- a place of a sub-block by its number
-pub place_low : (kind k : ℕ) (p : ℕ × ℕ) → k < 16 → p ≡ place_at (scan kind 2) k → (p.0 < 4) × (p.1 < 4)
-place_low kind k p h e = let at : IsPlaced kind 2 k = placed kind 2 k (omega arith) (omega arith) h in rw e (at.x, at.y)
 
 pub part_is : (s : Shape) (b : SubBlock) (k : ℕ) (p : ℕ × ℕ) (inner implied empty flag : Bool) (values tile : List ℤ) (level : ℤ) → IsSubBlock s b
     → p ≡ place_at (scan s.scan 2) k → level ≡ tile_at tile p → flag ≡ not (is_zero level) → implied ≡ is_implied inner (not empty) k → empty ≡ (length values == 0) →

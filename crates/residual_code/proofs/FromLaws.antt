@@ -2,13 +2,13 @@
 use Rattle.std.proofs.Common.{◌≡◌, refl, sym, ℕ, zero, suc, ◌+◌, ◌-◌, ◌*◌, ◌^◌, ◌<◌, ◌≤◌, Bool, true, false, List, [], ◌∷◌, ◌++◌, set, replicate, arith}
 use Rattle.std.specs.Prelude.{ℤ}
 use Rattle.h265_model.specs.Residual as residual
-use Rattle.h265_model.specs.Residual.{Sub, scan, place_at, sub_at, from_last, last_items, place_of, sig_items, value_items, set_of, nonzero, ended_at_zero, sub_items, without_leading_zeros}
+use Rattle.h265_model.specs.Residual.{Sub, scan, place_at, sub_at, from_last, last_items, place_of, sig_items, value_items, set_of, nonzero, ended_at_zero, sub_items}
 use Rattle.residual_code.specs.declared.shape.Shape.{Shape}
 use Rattle.residual_code.specs.declared.shape.SubBlock.{SubBlock}
 use Rattle.residual_code.specs.Parts.{IsShape, IsSubBlock, shape_of, tile_at, tile_levels, has_members, down}
-use Rattle.residual_code.specs.Marks.{AreMarks, mark_place}
+use Rattle.scan_orders.specs.Marks.{AreMarks, mark_place}
 use Rattle.residual_code.proofs.SubLaws.{from_is}
-use Rattle.residual_code.proofs.MarkLaws.{is_sub, marks_none, marks_more}
+use Rattle.scan_orders.proofs.MarkLaws.{is_sub, marks_none, marks_more}
 
 pub from_written : (s : residual.Shape) (F : ℕ → List ℤ) (sub : Sub) (place : ℕ × ℕ) (number k : ℕ) (v : ℤ) (tile whole first : List ℤ) (ended : Bool)
     → whole ≡ v ∷ tile_levels s.scan tile k → first ≡ v ∷ [] → sub ≡ sub_at s number [] → place ≡ place_of s number k
@@ -46,4 +46,4 @@ place_is s b k x y at e f = rw (e, f, at.x, at.y) refl
 
 pub first_mark : (s : Shape) (b : SubBlock) → IsShape s → IsSubBlock s b → AreMarks (shape_of s) b.number (true ∷ []) (set (replicate 81 false) (mark_place b.x b.y) true)
 first_mark s b is at =
-    marks_more s b.number b.x b.y [] (replicate 81 false) true is at.number (is_sub s b.number b.x b.y is at.number at.x at.y) at.x at.y refl (marks_none (shape_of s) (b.number + 1))
+    marks_more (shape_of s) b.number b.x b.y [] (replicate 81 false) true is.low is.high at.number (is_sub (shape_of s) b.number b.x b.y is.low is.high at.number at.x at.y) at.x at.y refl (marks_none (shape_of s) (b.number + 1))

@@ -1,8 +1,6 @@
 pub mod Zeros
 pub mod Down
-pub mod Places
 pub mod Codes
-pub mod Bounds
 pub mod Sizes
 pub mod Signs
 pub mod LastLaws

@@ -2,12 +2,12 @@
 use Rattle.std.proofs.Common.{◌≡◌, refl, sym, ◌∙◌, ap, ℕ, zero, suc, ◌-◌, ◌^◌, ◌<◌, ◌≤◌, Bool, true, false, cond, not, ◌||◌, List, [], ◌∷◌, ◌++◌, arith}
 use Rattle.std.specs.Prelude.{ℤ, pos, negsuc}
 use Rattle.h265_model.specs.Residual as residual
-use Rattle.h265_model.specs.Residual.{Sub, sub_at, sub_scan, place_at, nonzero, ended_at_zero, cbf, is_zero}
+use Rattle.h265_model.specs.Residual.{Sub, sub_scan, place_at, nonzero, ended_at_zero, cbf}
 use Rattle.residual_code.specs.declared.shape.Shape.{Shape}
 use Rattle.residual_code.specs.declared.shape.SubBlock.{SubBlock}
 use Rattle.residual_code.specs.Parts.{IsShape, IsSubBlock, shape_of, sub_count, sub_tile, sub_levels, tile_levels, flag_part, level_part, sub_part, coded_at}
 use Rattle.residual_code.proofs.Zeros.{any_level}
-use Rattle.residual_code.proofs.Places.{IsPlaced, placed}
+use Rattle.scan_orders.proofs.ScanPlaces.{IsPlaced, placed}
 
 pub x_at : (s : Shape) (b : SubBlock) (number : ℕ) → IsSubBlock s b → b.number ≡ number → b.x ≡ (place_at (sub_scan (shape_of s)) number).0
 x_at s b number at e = at.x ∙ ap (λ n. (place_at (sub_scan (shape_of s)) n).0) e

@@ -5,11 +5,11 @@ use Rattle.std.proofs.lemmas.Bool.{false≢true}
 use Rattle.std.proofs.Math.Nat.{eq-or-lt_of_le}
 use Rattle.h265_model.specs.Plain.{context_bin, place_values}
 use Rattle.h265_model.specs.Residual as residual
-use Rattle.h265_model.specs.Residual.{scan, sub_scan, place_at, number_of, level_at, side, in_coding_order, residual_items, from_subs, from_last, without_leading_zeros, cbf, sub_items, sub_at, last_items, place_of, sig_items, value_items, set_of, nonzero, ended_at_zero, flag_context}
+use Rattle.h265_model.specs.Residual.{scan, sub_scan, place_at, number_of, level_at, in_coding_order, residual_items, from_subs, from_last, without_leading_zeros, cbf, sub_items, sub_at, last_items, place_of, sig_items, value_items, set_of, nonzero, ended_at_zero, flag_context}
 use Rattle.residual_code.specs.Parts.{down, tile_at, tile_levels, sub_tile, sub_levels, sub_part, coded_at}
 use Rattle.residual_code.proofs.Zeros.{any_level, none_of}
 use Rattle.residual_code.proofs.Down.{length-down, down_first, down_none}
-use Rattle.residual_code.proofs.Places.{number_found, covered, scan_long}
+use Rattle.scan_orders.proofs.ScanPlaces.{number_found, covered, scan_long}
 use Rattle.residual_code.proofs.Tiles.{none_down}
 
 map_same : {A B : Type 0} (f g : A → B) (xs : List A) → ((x : A) → f x ≡ g x) → map f xs ≡ map g xs

@@ -6,7 +6,7 @@ use Rattle.h265_model.specs.Residual.{sub_items, sub_at, ended_at_zero, nonzero}
 use Rattle.bin_items.specs.Growth.{Meaning, Grew, TookAllBut, TookFront}
 use Rattle.bin_items.proofs.Growing.{nothing_taken, took_more, took_as, took_all, stopped}
 use Rattle.residual_code.specs.Parts.{down, coded_at, sub_part}
-use Rattle.residual_code.specs.Marks.{AreMarks}
+use Rattle.scan_orders.specs.Marks.{AreMarks}
 use Rattle.residual_code.proofs.SubLaws.{sub_more, subs_end}
 
 -- of the sub-blocks before a number, those before another are left, where these flags came first

@@ -5,7 +5,7 @@ use Rattle.std.proofs.Math.Nat.{eq-or-lt_of_le}
 use Rattle.h265_model.specs.Residual.{is_zero, scan, place_at, number_of}
 use Rattle.residual_code.specs.Parts.{tile_at, tile_levels, down}
 use Rattle.residual_code.proofs.Zeros.{any_level, none_at, none_of, zero_is, is_zero_at}
-use Rattle.residual_code.proofs.Places.{number_found, covered, scan_long}
+use Rattle.scan_orders.proofs.ScanPlaces.{number_found, covered, scan_long}
 
 -- none of the values below a bound is a level
 pub down_none : (f : ℕ → ℤ) (n : ℕ) → ((i : ℕ) → i < n → f i ≡ pos 0) → any_level (down f n) ≡ false

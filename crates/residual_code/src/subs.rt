@@ -3,7 +3,7 @@ ghost use Rattle.std.specs.Prelude.{◌≡◌, ℕ, if◌then◌else◌, ◌<◌
 ghost use Rattle.h265_model.specs.Residual.{sub_at, sig_items, value_items, set_of, nonzero, ended_at_zero, sub_items, AreLevels, has_flag, greater1_flags};
 ghost use Rattle.bin_items.specs.Growth.{IsOpen, Writes};
 ghost use Rattle.residual_code.specs.Parts.{IsShape, IsSubBlock, shape_of, sub_of, sub_count, tile_levels, sub_levels, has_members, down, coded_at, flag_part, level_part, sub_part, set_number};
-ghost use Rattle.residual_code.specs.Marks.{AreMarks, mark_place};
+ghost use Rattle.scan_orders.specs.Marks.{AreMarks, mark_place};
 
 use crate::flags::write_flags;
 use crate::shape::{Shape, SubBlock};

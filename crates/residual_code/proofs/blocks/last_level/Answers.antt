@@ -2,7 +2,7 @@ use Rattle.std.proofs.Common.{◌∙◌, ◌-◌, ap, get_or, not, w16, rules, a
 use Rattle.std.proofs.lemmas.Int.{to_z-of_z}
 use Rattle.h265_model.specs.Residual.{cbf, is_zero, scan, place_at}
 use Rattle.residual_code.specs.Parts.{tile_at, tile_levels}
-use Rattle.residual_code.proofs.FlagLaws.{place_low}
+use Rattle.scan_orders.proofs.ScanPlaces.{place_low}
 use Rattle.residual_code.proofs.LastLaws.{lead_zero, lead_level, some_last, level_zero, level_not}
 use Rattle.residual_code.proofs.blocks.last_level.Goals as goal
 

@@ -1,4 +1,4 @@
-use Rattle.residual_code.proofs.Bounds.{sig_low}
+use Rattle.scan_orders.proofs.Bounds.{sig_low}
 use Rattle.residual_code.proofs.FlagLaws.{sub_low}
 use Rattle.residual_code.proofs.flags.write_bin.Goals as goal
 

@@ -3,7 +3,8 @@ use Rattle.std.proofs.lemmas.Int.{to_z-of_z}
 use Rattle.bin_items.proofs.Growing.{writes_at_err, front_as, grew_as}
 use Rattle.h265_model.specs.Residual.{nonzero, is_zero}
 use Rattle.residual_code.specs.Parts.{tile_at}
-use Rattle.residual_code.proofs.FlagLaws.{place_low, part_is}
+use Rattle.scan_orders.proofs.ScanPlaces.{place_low}
+use Rattle.residual_code.proofs.FlagLaws.{part_is}
 use Rattle.residual_code.proofs.flags.write_flag.Goals as goal
 
 pub level_at-level-requires-clause-column : goal.level_at-level-requires-clause-column

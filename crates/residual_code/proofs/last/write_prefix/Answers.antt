@@ -1,7 +1,7 @@
 use Rattle.std.proofs.Common.{◌≡◌, ◌*◌, ◌-◌, arith}
 use Rattle.h265_model.specs.Residual.{last_context}
 use Rattle.bin_items.proofs.Growing.{took_one_more, took_as, took_all, open_as}
-use Rattle.residual_code.proofs.Bounds.{last_low}
+use Rattle.scan_orders.proofs.Bounds.{last_low}
 use Rattle.residual_code.proofs.LastLaws.{prefix_more, prefix_ended}
 use Rattle.residual_code.proofs.last.write_prefix.Goals as goal
 

@@ -1,5 +1,5 @@
 use Rattle.bin_items.proofs.Growing.{writes_as, writes_took}
-use Rattle.residual_code.proofs.Bounds.{sub_block_low}
+use Rattle.scan_orders.proofs.Bounds.{sub_block_low}
 use Rattle.residual_code.proofs.MarkLaws.{flag_written, not_zero}
 use Rattle.residual_code.proofs.subs.write_coded.Goals as goal
 

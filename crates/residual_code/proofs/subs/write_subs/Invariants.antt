@@ -1,7 +1,7 @@
 use Rattle.std.proofs.Common.{◌≤◌, List, Bool}
 use Rattle.bin_items.specs.Growth.{IsOpen}
 use Rattle.residual_code.specs.Parts.{shape_of, sub_levels}
-use Rattle.residual_code.specs.Marks.{AreMarks}
+use Rattle.scan_orders.specs.Marks.{AreMarks}
 use Rattle.residual_code.proofs.SubSteps.{Done}
 use Rattle.residual_code.proofs.subs.write_subs.Given as goal
 

@@ -3,7 +3,7 @@ use Rattle.std.specs.Prelude.{pos, nat_abs}
 use Rattle.std.proofs.lemmas.Int.{to_z-of_z}
 use Rattle.bin_items.proofs.Growing.{took_one_more, took_as, took_all, open_as}
 use Rattle.h265_model.specs.Residual.{greater1_items}
-use Rattle.residual_code.proofs.Bounds.{greater1_low}
+use Rattle.scan_orders.proofs.Bounds.{greater1_low}
 use Rattle.residual_code.proofs.Sizes.{greater1_more, flags_done}
 use Rattle.residual_code.proofs.values.write_greater1.Goals as goal
 

@@ -1,6 +1,6 @@
 use Rattle.bin_items.proofs.Growing.{writes_as, writes_took}
 use Rattle.residual_code.proofs.Sizes.{greater2_is}
-use Rattle.residual_code.proofs.Bounds.{greater2_low}
+use Rattle.scan_orders.proofs.Bounds.{greater2_low}
 use Rattle.residual_code.proofs.values.write_greater2.Goals as goal
 
 pub bin-requires-clause-in_range : goal.bin-requires-clause-in_range

@@ -92,3 +92,7 @@ number_found x y (p ∷ places) h = go (p.0 == x) refl (p.1 == y) refl h (number
     go true e true f k rest = ap (λ m. (m, p.1)) (eqb-true _ _ e) ∙ ap (λ m. (x, m)) (eqb-true _ _ f)
     go true e false f k rest = rest (omega arith)
     go false e b f k rest = rest (omega arith)
+
+-- a place of a sub-block by its number
+pub place_low : (kind k : ℕ) (p : ℕ × ℕ) → k < 16 → p ≡ place_at (scan kind 2) k → (p.0 < 4) × (p.1 < 4)
+place_low kind k p h e = let at : IsPlaced kind 2 k = placed kind 2 k (omega arith) (omega arith) h in rw e (at.x, at.y)
