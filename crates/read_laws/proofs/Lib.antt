@@ -1,2 +1,4 @@
 pub mod Yields
 pub mod ReadTrees
+pub mod ReadRows
+pub mod Drawn
