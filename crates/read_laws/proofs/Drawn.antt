@@ -1,5 +1,5 @@
 -- The units that are read of a whole picture draw it, whatever they are drawn over.
-use Rattle.std.proofs.Common.{◌≡◌, refl, sym, ◌∙◌, ap, subst, ℕ, zero, suc, ◌+◌, ◌-◌, ◌*◌, ◌<◌, ◌≤◌, List, [], ◌∷◌, ◌++◌, Bool, true, false, cond, ◌||◌, ⊎_elim, length, take, get_or, map, append_assoc, append-nil, arith, le_refl, take_all}
+use Rattle.std.proofs.Common.{◌≡◌, refl, sym, ◌∙◌, ap, subst, ℕ, zero, suc, ◌+◌, ◌-◌, ◌*◌, ◌<◌, List, [], ◌∷◌, ◌++◌, Bool, true, false, cond, ◌||◌, ⊎_elim, length, take, get_or, map, append_assoc, append-nil, arith, le_refl, take_all}
 use Rattle.std.specs.List.{AllByRecursion}
 use Rattle.std.proofs.lemmas.Bool.{and_parts, or_cases, ltb-true}
 use Rattle.std.proofs.lemmas.List.{length-map}
@@ -11,7 +11,7 @@ use Rattle.h265_model.specs.Plain.{Size, Picture, coded, ctus, joined}
 use Rattle.h265_model.specs.Predict.{is_inside, is_available}
 use Rattle.h265_model.specs.Raster.{plane, planes, blank}
 use Rattle.h265_model.specs.Tree.{covers, leaf_side, IsLawfulTree, AreLawfulTrees, IsAllowed, AreAllowed}
-use Rattle.h265_model.specs.Rebuild.{sums, with_block}
+use Rattle.h265_model.specs.Rebuild.{sums}
 use Rattle.h265_model.specs.MotionTree.{ReadUnit, Content, Copied, Moved, Samples, Levels, kind_of, vector_of, leaf_of}
 use Rattle.h265_model.specs.MotionRebuild.{block_of, with_unit, with_units, rebuild}
 use Rattle.h265_model.proofs.Squares.{same_places}

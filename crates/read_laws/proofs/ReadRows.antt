@@ -13,11 +13,11 @@ use Rattle.h265_model.specs.Contexts.{row_start}
 use Rattle.h265_model.specs.Slice.{cut_after, substreams}
 use Rattle.h265_model.specs.Tree.{AreModes, expect, is_last, contexts_read}
 use Rattle.h265_model.specs.Motion.{Moving, leaves}
-use Rattle.h265_model.specs.MotionTree.{ReadUnit, ReadCtu, leaf_of, moving_of, units_of, units_after, ctu_read, ctus_read, ends_row}
-use Rattle.h265_model.specs.MotionSlice.{subset_end, slice_row_read, segment_row_read, handed_on, row_of_bytes, rows_read, slice_read, segment_read}
+use Rattle.h265_model.specs.MotionTree.{ReadUnit, ReadCtu, moving_of, units_of, units_after, ctu_read, ctus_read, ends_row}
+use Rattle.h265_model.specs.MotionSlice.{subset_end, slice_row_read, segment_row_read, handed_on, row_of_bytes, rows_read}
 use Rattle.h265_model.proofs.ListParts.{all_append}
 use Rattle.read_laws.specs.Laws.{IsSound, AreTreesFrom, IsReadFirst, EachReadSliceIsLawful, EachReadSegmentIsLawful}
-use Rattle.read_laws.proofs.Yields.{Yields, yields_give, yields_any, yields_bind, yields_after, yields_cond, yields_expect}
+use Rattle.read_laws.proofs.Yields.{Yields, yields_give, yields_bind, yields_after, yields_cond, yields_expect}
 use Rattle.read_laws.proofs.ReadTrees.{modes_after, yields_ctu}
 
 -- ---- coding tree units one after another

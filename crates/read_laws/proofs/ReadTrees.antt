@@ -1,6 +1,6 @@
 -- The units that are read of a coding tree unit are a lawful tree.
 use Rattle.std.proofs.Common.{◌≡◌, refl, sym, ◌∙◌, ap, subst, ℕ, zero, suc, ◌+◌, ◌*◌, ◌^◌, ◌<◌, List, [], ◌∷◌, ◌++◌, Bool, true, false, cond, not, map, inl, inr}
-use Rattle.std.specs.Prelude.{Option, Some, None, MatchBool, ◌⊎◌, ◌==◌}
+use Rattle.std.specs.Prelude.{None, MatchBool, ◌⊎◌, ◌==◌}
 use Rattle.std.specs.List.{AllByRecursion}
 use Rattle.h265_model.specs.declared.Place.TheVariants.{Context, Terminate}
 use Rattle.h265_model.specs.declared.leaf.SliceKind.{SliceKind}
