@@ -2,3 +2,4 @@ pub mod Yields
 pub mod ReadTrees
 pub mod ReadRows
 pub mod Drawn
+pub mod Apart

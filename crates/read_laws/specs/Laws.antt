@@ -1,13 +1,14 @@
 -- Laws over the reading of coding tree units: whatever the bytes are, what is read of them is lawful and covers the picture.
-use Rattle.std.specs.Prelude.{◌≡◌, ◌<◌, ℕ, suc, ◌+◌, ◌*◌, true, List, [], ◌∷◌, ◌++◌, length, map, Option, Some, None}
-use Rattle.std.specs.List.{AllByRecursion}
+use Rattle.std.specs.Prelude.{◌≡◌, ◌<◌, ℕ, suc, ◌+◌, ◌*◌, true, false, List, [], ◌∷◌, ◌++◌, length, map, Option, Some, None}
+use Rattle.std.specs.List.{AllByRecursion, list_any}
 use Rattle.h265_model.specs.declared.leaf.SliceKind.{SliceKind}
 use Rattle.h265_model.specs.declared.leaf.SliceKind.TheVariants.{I, P}
+use Rattle.h265_model.specs.declared.leaf.Leaf.{Leaf}
 use Rattle.h265_model.specs.declared.moves.Vector.{Vector}
 use Rattle.h265_model.specs.Plain.{Size, Picture, ctus, joined}
 use Rattle.h265_model.specs.Raster.{planes}
 use Rattle.h265_model.specs.Engine.{Engine}
-use Rattle.h265_model.specs.Tree.{IsLawfulTree, IsMode, AreModes}
+use Rattle.h265_model.specs.Tree.{covers, IsLawfulTree, IsMode, AreModes}
 use Rattle.h265_model.specs.Motion.{Moving, leaves}
 use Rattle.h265_model.specs.MotionTree.{ReadUnit, ReadCtu, kind_of, vector_of, leaf_of, moving_of, units_of, is_in_picture, ctu_read}
 use Rattle.h265_model.specs.MotionSlice.{slice_read, segment_read}
@@ -65,3 +66,12 @@ abbrev pub EachReadPictureIsDrawn : Type 0
 EachReadPictureIsDrawn =
     (kind : SliceKind) (size : Size) (prev canvas : Picture) (units : List ReadUnit) → 0 < ctus size.w → IsReadFirst kind size (ctus size.w * ctus size.h) units →
     planes size (with_units size prev canvas units) ≡ rebuild size prev units
+
+-- no place is in two leaves: none of a leaf's places is in an earlier one, or in one of these before
+abbrev pub AreApart : List Leaf → List Leaf → Type 0
+AreApart before [] = Unit {0}
+AreApart before (leaf ∷ leaves) = ((x y : ℕ) → covers x y leaf ≡ true → list_any (covers x y) before ≡ false) × AreApart (before ++ leaf ∷ []) leaves
+
+-- each place of a picture is drawn by one unit alone
+abbrev pub EachPlaceIsDrawnOnce : Type 0
+EachPlaceIsDrawnOnce = (kind : SliceKind) (size : Size) (n : ℕ) (units : List ReadUnit) → IsReadFirst kind size n units → AreApart [] (map leaf_of units)

@@ -1,7 +1,7 @@
 //! Laws over the reading of coding tree units, of whatever bytes. Each function does nothing: its clause is the law.
 #![tactic(auto)]
 
-ghost use Rattle.read_laws.specs.Laws.{EachReadTreeIsLawful, EachReadSliceIsLawful, EachReadSegmentIsLawful, EachReadPictureIsDrawn};
+ghost use Rattle.read_laws.specs.Laws.{EachReadTreeIsLawful, EachReadSliceIsLawful, EachReadSegmentIsLawful, EachReadPictureIsDrawn, EachPlaceIsDrawnOnce};
 
 /// What is read of a coding tree unit is a lawful tree of sound units.
 pub fn each_read_tree_is_lawful()
@@ -21,4 +21,9 @@ pub fn each_read_segment_is_lawful()
 /// What is read of a whole picture draws it, whatever it is drawn over.
 pub fn each_read_picture_is_drawn()
     ensures { EachReadPictureIsDrawn }
+{}
+
+/// Each place of a picture is drawn by one unit alone.
+pub fn each_place_is_drawn_once()
+    ensures { EachPlaceIsDrawnOnce }
 {}
