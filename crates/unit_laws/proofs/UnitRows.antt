@@ -23,7 +23,7 @@ use Rattle.h265_laws.proofs.RowLaw.{with_any, with_bind, with_expect, with_as, w
 use Rattle.h265_laws.proofs.ContextsLaw.{after_both, after_is, row_start_is}
 use Rattle.h265_laws.proofs.SliceLaw.{done_at}
 use Rattle.h265_model.proofs.ContextLaws.{start_is}
-use Rattle.unit_laws.specs.Laws.{AreLawfulUnits, reads_after, units_from, EachUnitRowIsRead}
+use Rattle.unit_laws.specs.Laws.{AreLawfulUnits, reads_after, units_from, EachUnitRowIsRead, EachCodedUnitIsFit}
 use Rattle.unit_laws.proofs.UnitTreeLaw.{AreFit, coded-append, reads-append, after_reads, fit_all, trees_are_read}
 
 -- ---- the units before a coding tree unit
@@ -37,7 +37,7 @@ joined_more (l ∷ units) (suc n) = ap (λ (r : List MoveLeaf). l ++ r) (joined_
 pub first_more : (units : List (List MoveLeaf)) (n : ℕ) → coded_first units (suc n) ≡ coded_after (coded_first units n) (get_or units n [])
 first_more units n = ap (coded_after []) (joined_more units n) ∙ coded-append [] (joined (take n units)) (get_or units n [])
 
-first_fit : (kind : SliceKind) (size : Size) (units : List (List MoveLeaf)) (total n : ℕ) → n ≤ total → AreLawfulUnits kind size units total → AreFit (coded_first units n)
+pub first_fit : (kind : SliceKind) (size : Size) (units : List (List MoveLeaf)) (total n : ℕ) → n ≤ total → AreLawfulUnits kind size units total → AreFit (coded_first units n)
 first_fit kind size units total zero h are = record { modes = tt; short = tt }
 first_fit kind size units total (suc n) h are =
     subst AreFit (sym (first_more units n)) (fit_all kind size (coded_first units n) (get_or units n []) (are.stand n (omega arith)) (first_fit kind size units total n (omega arith) are))
@@ -217,3 +217,6 @@ pub row_read_on : (kind : SliceKind) (size : Size) (source : Source) (units : Li
 row_read_on kind size source units row =
     values_read kind size source units (row * ctus size.w) (ctus size.w) (contexts_of kind (move_unit kind source) size units row)
     ∙ (let e : row * ctus size.w + ctus size.w ≡ (row + 1) * ctus size.w = omega arith in ap (read_first source units) e)
+
+pub coded_are_fit : EachCodedUnitIsFit
+coded_are_fit kind size units total n few are = let f : AreFit (coded_first units n) = first_fit kind size units total n few are in (f.modes, f.short)

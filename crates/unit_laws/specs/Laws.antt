@@ -151,6 +151,12 @@ pub record AreLawfulUnits (kind : SliceKind) (size : Size) (units : List (List M
   pub tree : (ctu : ℕ) → ctu < total → IsUnitTree size 2 (ctu_x size ctu) (ctu_y size ctu) (get_or units ctu [])
   pub stand : (ctu : ℕ) → ctu < total → CanStandAll kind size (coded_first units ctu) (get_or units ctu [])
 
+-- units that are coded have modes and short vectors, the merge vectors of skips among them
+abbrev pub EachCodedUnitIsFit : Type 0
+EachCodedUnitIsFit =
+    (kind : SliceKind) (size : Size) (units : List (List MoveLeaf)) (total n : ℕ) → n ≤ total → AreLawfulUnits kind size units total →
+    AreModes (leaves (coded_first units n)) × AreShort (coded_first units n)
+
 -- what is read of n coding tree units from this one on, after these contexts
 abbrev pub units_from : SliceKind → Size → Source → List (List MoveLeaf) → ℕ → ℕ → List ℕ → List ReadCtu
 units_from kind size source units ctu zero c = []

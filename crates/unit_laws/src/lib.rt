@@ -1,7 +1,7 @@
 //! Laws over coding units, coding tree units and rows where blocks may move. Each function does nothing: its clause is the law.
 #![tactic(auto)]
 
-ghost use Rattle.unit_laws.specs.Laws.{EachVectorIsRead, EachUnitIsRead, EachUnitTreeIsRead, EachRowIsStill, EachUnitRowIsRead, EachUnitRowIsWellFormed, EachUnitRowIsSubstream, EachSegmentIsStill, EachUnitPictureIsRebuilt};
+ghost use Rattle.unit_laws.specs.Laws.{EachVectorIsRead, EachUnitIsRead, EachUnitTreeIsRead, EachRowIsStill, EachUnitRowIsRead, EachCodedUnitIsFit, EachUnitRowIsWellFormed, EachUnitRowIsSubstream, EachSegmentIsStill, EachUnitPictureIsRebuilt};
 
 /// Each vector that is written as a difference is read back.
 pub fn each_vector_is_read()
@@ -46,4 +46,9 @@ pub fn each_unit_row_is_substream()
 /// The segments of rows without moved units are those of leaves.
 pub fn each_segment_is_still()
     ensures { EachSegmentIsStill }
+{}
+
+/// The units that are coded have modes and short vectors.
+pub fn each_coded_unit_is_fit()
+    ensures { EachCodedUnitIsFit }
 {}

@@ -1,0 +1,5 @@
+pub mod Yields
+pub mod ReadTrees
+pub mod ReadRows
+pub mod Drawn
+pub mod Apart
