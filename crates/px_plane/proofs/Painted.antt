@@ -3,12 +3,11 @@ use Rattle.std.proofs.Common.{◌≡◌, refl, sym, ◌∙◌, ap, ℕ, zero, su
 use Rattle.std.specs.Prelude.{◌&&◌, nat_lt}
 use Rattle.std.proofs.lemmas.List.Sums.{fold-append}
 use Rattle.h265_model.specs.Plain.{Size, Picture, coded}
-use Rattle.h265_model.specs.Lines.{black as unpainted}
 use Rattle.h265_model.specs.declared.line.Rect.{Rect}
 use Rattle.h265_model.specs.declared.line.Rgb.{Rgb}
 use Rattle.h265_model.specs.declared.line.Line.{Line}
 use Rattle.h265_model.specs.declared.line.Line.TheVariants.{Fill, Blit}
-use Rattle.h265_model.specs.Raster.{colour, raster, component, coded_picture, paints, repainted}
+use Rattle.h265_model.specs.Raster.{Shown, colour, raster, component, coded_picture, paints, painted as shown_after, unpainted}
 use Rattle.px_plane.specs.Planes.{Planes, plane_of, picture_of, IsPicture, Stores, ShowsLines, covers, filled, blitted, pixel_at}
 use Rattle.px_plane.specs.declared.plane.Sides.{Sides}
 use Rattle.px_plane.specs.Rows.{IsPut, IsPartOf, IsPutInto, is_in}
@@ -67,9 +66,31 @@ nothing_painted p r ink none = record {
 
 -- ---- lines
 
-colour_more : (lines : List Line) (line : Line) (x y : ℕ) → colour (lines ++ line ∷ []) x y ≡ repainted x y (colour lines x y) line
+colour_more : (size : Size) (lines : List Line) (line : Line) → colour size (lines ++ line ∷ []) ≡ shown_after size (colour size lines) line
 unfolding colour
-colour_more lines line x y = fold-append (repainted x y) unpainted lines (line ∷ [])
+colour_more size lines line = fold-append (shown_after size) unpainted lines (line ∷ [])
+
+-- the sample of a place of the desktop
+abbrev pub sample_in : Size → Shown → Picture
+sample_in size shown c x y = cond (nat_lt x size.w && nat_lt y size.h) (component c (shown x y)) 0
+
+-- a picture that shows some lines has their colours
+pub lines_at : (p : Planes) (lines : List Line) → ShowsLines p lines → (c x y : ℕ) → c < 3 → x < coded p.size.w → y < coded p.size.h → picture_of p c x y ≡ sample_in p.size (colour p.size lines) c x y
+lines_at p lines shown c x y h hx hy =
+    (stores_from_planes p (coded_picture p.size (raster p.size lines)) shown.stored).each c x y h hx hy ∙ coded_at p.size lines c x y
+
+-- a picture with the colours of one more line shows this line too
+pub line_shows : (old new : Planes) (line : Line) (lines : List Line) → new.size ≡ old.size → IsPicture new
+    → ((c x y : ℕ) → c < 3 → x < coded old.size.w → y < coded old.size.h → picture_of new c x y ≡ sample_in old.size (shown_after old.size (colour old.size lines) line) c x y)
+    → ShowsLines new (lines ++ line ∷ [])
+line_shows old new line lines same is each = record {
+  stored = planes_from_stores new (coded_picture new.size (raster new.size (lines ++ line ∷ []))) is (record {
+    each = λ c x y h hx hy.
+        each c x y h (rw (← same) hx) (rw (← same) hy)
+        ∙ (ap (λ (f : Shown). sample_in old.size f c x y) (sym (colour_more old.size lines line))
+        ∙ sym (ap (λ (size : Size). coded_picture size (raster size (lines ++ line ∷ [])) c x y) same ∙ coded_at old.size (lines ++ line ∷ []) c x y));
+  });
+}
 
 inked_is : (within paint : Bool) (c : ℕ) (ink before : Rgb)
     → cond (within && paint) (component c ink) (cond within (component c before) 0) ≡ cond within (component c (cond paint ink before)) 0
@@ -80,27 +101,21 @@ inked_is false paint c ink before = refl
 -- a picture that is painted shows the raster of one more line
 pub inked_shows : (old new : Planes) (r : Rect) (ink : ℕ → ℕ → Rgb) (line : Line) (lines : List Line)
     → new.size ≡ old.size → IsPicture new
-    → ((x y : ℕ) (before : Rgb) → repainted x y before line ≡ cond (paints r x y) (ink x y) before)
+    → ((shown : Shown) (x y : ℕ) → shown_after old.size shown line x y ≡ cond (paints r x y) (ink x y) (shown x y))
     → Stores new (inked old r ink) → ShowsLines old lines → ShowsLines new (lines ++ line ∷ [])
 inked_shows old new r ink line lines same is line_is painted shown =
-    let was : Stores old (coded_picture old.size (raster old.size lines)) = stores_from_planes old (coded_picture old.size (raster old.size lines)) shown.stored in
-    record {
-      stored = planes_from_stores new (coded_picture new.size (raster new.size (lines ++ line ∷ []))) is (record {
-        each = λ c x y h hx hy.
-            let within : Bool = nat_lt x old.size.w && nat_lt y old.size.h in
-            let before : Rgb = colour lines x y in
-            painted.each c x y h hx hy
-            ∙ (ap (λ (s : ℕ). cond (covers old.size r x y) (component c (ink x y)) s) (was.each c x y h (rw (← same) hx) (rw (← same) hy) ∙ coded_at old.size lines c x y)
-            ∙ (inked_is within (paints r x y) c (ink x y) before
-            ∙ (ap (λ (v : Rgb). cond within (component c v) 0) (sym (colour_more lines line x y ∙ line_is x y before))
-            ∙ sym (ap (λ (size : _). coded_picture size (raster size (lines ++ line ∷ [])) c x y) same ∙ coded_at old.size (lines ++ line ∷ []) c x y))));
-      });
-    }
+    line_shows old new line lines same is (λ c x y h hx hy.
+    let within : Bool = nat_lt x old.size.w && nat_lt y old.size.h in
+    let before : Shown = colour old.size lines in
+    painted.each c x y h (rw same hx) (rw same hy)
+    ∙ (ap (λ (s : ℕ). cond (covers old.size r x y) (component c (ink x y)) s) (lines_at old lines shown c x y h hx hy)
+    ∙ (inked_is within (paints r x y) c (ink x y) (before x y)
+    ∙ ap (λ (v : Rgb). cond within (component c v) 0) (sym (line_is before x y)))))
 
 pub fill_shows : (old new : Planes) (r : Rect) (ink : Rgb) (lines : List Line) → new.size ≡ old.size → IsPicture new
     → Stores new (filled old r ink) → ShowsLines old lines → ShowsLines new (lines ++ Fill r ink ∷ [])
-fill_shows old new r ink lines same is painted shown = inked_shows old new r (λ x y. ink) (Fill r ink) lines same is (λ x y before. refl) painted shown
+fill_shows old new r ink lines same is painted shown = inked_shows old new r (λ x y. ink) (Fill r ink) lines same is (λ before x y. refl) painted shown
 
 pub blit_shows : (old new : Planes) (r : Rect) (pixels : List Rgb) (lines : List Line) → new.size ≡ old.size → IsPicture new
     → Stores new (blitted old r pixels) → ShowsLines old lines → ShowsLines new (lines ++ Blit r pixels ∷ [])
-blit_shows old new r pixels lines same is painted shown = inked_shows old new r (pixel_at r pixels) (Blit r pixels) lines same is (λ x y before. refl) painted shown
+blit_shows old new r pixels lines same is painted shown = inked_shows old new r (pixel_at r pixels) (Blit r pixels) lines same is (λ before x y. refl) painted shown

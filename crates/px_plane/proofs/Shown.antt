@@ -85,15 +85,15 @@ planes_from_stores p picture is s =
 
 -- the samples of the raster of some lines
 pub coded_at : (size : Size) (lines : List Line) (c x y : ℕ)
-    → coded_picture size (raster size lines) c x y ≡ cond (nat_lt x size.w && nat_lt y size.h) (component c (colour lines x y)) 0
+    → coded_picture size (raster size lines) c x y ≡ cond (nat_lt x size.w && nat_lt y size.h) (component c (colour size lines x y)) 0
 unfolding coded_picture raster
 coded_at size lines c x y = go (nat_lt x size.w && nat_lt y size.h) refl
   where
     go : (b : Bool) → (nat_lt x size.w && nat_lt y size.h) ≡ b
-        → cond b (component c (get_or (place_values size.w size.h (colour lines)) (y * size.w + x) unpainted)) 0 ≡ cond b (component c (colour lines x y)) 0
+        → cond b (component c (get_or (place_values size.w size.h (colour size lines)) (y * size.w + x) unpainted)) 0 ≡ cond b (component c (colour size lines x y)) 0
     go true e =
         let t = and_parts (nat_lt x size.w) (nat_lt y size.h) e in
-        ap (component c) (at_places size.w size.h x y (colour lines) unpainted (ltb-true x size.w t.0) (ltb-true y size.h t.1))
+        ap (component c) (at_places size.w size.h x y (colour size lines) unpainted (ltb-true x size.w t.0) (ltb-true y size.h t.1))
     go false e = refl
 
 -- a picture that shows a raster has the samples of the raster's coded picture, everywhere

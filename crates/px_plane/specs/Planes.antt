@@ -3,7 +3,7 @@ use Rattle.std.specs.Prelude.{◌≡◌, ◌<◌, length, ℕ, zero, suc, ◌+�
 use Rattle.h265_model.specs.Plain.{Size, Picture, coded}
 use Rattle.h265_model.specs.Words.{is_size}
 use Rattle.h265_model.specs.Lines as lines
-use Rattle.h265_model.specs.Raster.{Raster, raster, component, coded_picture, planes, paints}
+use Rattle.h265_model.specs.Raster.{Raster, raster, component, coded_picture, planes, paints, copies, source_x, source_y}
 use Rattle.h265_model.specs.declared.line.Rect.{Rect}
 use Rattle.h265_model.specs.declared.line.Rgb.{Rgb}
 use Rattle.h265_model.specs.declared.line.Line.{Line}
@@ -68,6 +68,15 @@ pixel_at r pixels x y = slice_index_or pixels ((y - r.y) * r.w + (x - r.x)) line
 -- the samples after a rectangle is painted with pixels
 abbrev pub blitted : Planes → Rect → List Rgb → Picture
 blitted p r pixels c x y = if covers p.size r x y then component c (pixel_at r pixels x y) else picture_of p c x y
+
+-- a copy of the rectangle to a place paints this place of the desktop
+abbrev pub copies_to : Size → Rect → ℕ → ℕ → ℕ → ℕ → Bool
+copies_to size r to_x to_y x y = nat_lt x size.w && nat_lt y size.h && copies size r to_x to_y x y
+
+-- the samples after a rectangle is copied to a place
+abbrev pub copied : Planes → Rect → ℕ → ℕ → Picture
+copied p r to_x to_y c x y =
+    if copies_to p.size r to_x to_y x y then picture_of p c (source_x r to_x x) (source_y r to_y y) else picture_of p c x y
 
 -- the part of a rectangle that lies in the desktop
 abbrev pub clipped : Size → Rect → Rect
