@@ -67,9 +67,8 @@ above_row : (left right bottom j x : ℕ) → left ≤ x → x < right → j < b
 above_row left right bottom j x a b c = grind (arith, nat_tests)
 
 module _ (before now after : List ℕ) (stride left right from_x from_row j : ℕ)
-  (across : left ≤ right) (wide : right ≤ stride) (source_wide : from_x + (right - left) ≤ stride)
-  (c : IsCopied now after (from_row * stride + from_x) (j * stride + left) (right - left)) where
-
+    (across : left ≤ right) (wide : right ≤ stride) (source_wide : from_x + (right - left) ≤ stride)
+    (c : IsCopied now after (from_row * stride + from_x) (j * stride + left) (right - left)) where
   -- a place of the row has its source's sample
   in_this_row : ((x : ℕ) → x < stride → get_or now (from_row * stride + x) 0 ≡ get_or before (from_row * stride + x) 0)
       → (x : ℕ) → left ≤ x → x < right → get_or after (j * stride + x) 0 ≡ get_or before (from_row * stride + (from_x + (x - left))) 0
@@ -139,7 +138,7 @@ part_copied old new r to_x to_y part is put = record {
       put.each c x y h (rw (← same) hx) (rw (← same) hy)
       ∙ (ap (λ (t : Bool). cond t (picture_of old c (r.x + (x - part.left)) (r.y + (y - part.top))) (picture_of old c x y)) (sym (is.covered x y))
       ∙ ap (λ (s : ℕ). cond (copies_to old.size r to_x to_y x y) s (picture_of old c x y))
-        (λ i. picture_of old c (r.x + (x - is.left i)) (r.y + (y - is.top i))));
+      (λ i. picture_of old c (r.x + (x - is.left i)) (r.y + (y - is.top i))));
 }
 
 -- nothing is painted where nothing is copied
@@ -184,8 +183,8 @@ copy_shows old new r to_x to_y lines same is stored shown =
     line_shows old new (Copy r to_x to_y) lines same is (λ c x y h hx hy.
     stored.each c x y h (rw same hx) (rw same hy)
     ∙ copied_is size before r to_x to_y c x y (picture_of old c (source_x r to_x x) (source_y r to_y y)) (picture_of old c x y) (copies size r to_x to_y x y) refl
-      (λ copy. lines_at old lines shown c (source_x r to_x x) (source_y r to_y y) h (across r to_x to_y x y copy) (down r to_x to_y x y copy))
-      (lines_at old lines shown c x y h hx hy))
+    (λ copy. lines_at old lines shown c (source_x r to_x x) (source_y r to_y y) h (across r to_x to_y x y copy) (down r to_x to_y x y copy))
+    (lines_at old lines shown c x y h hx hy))
   where
     across : (r : Rect) (to_x to_y x y : ℕ) → copies old.size r to_x to_y x y ≡ true → source_x r to_x x < coded old.size.w
     across r to_x to_y x y copy =

@@ -191,13 +191,7 @@ fn copy_from_above(plane: &mut [u8], stride: usize, part: Sides, from_x: usize, 
 }
 
 /// Copies to a part the samples of as many places from another one on, as if all of them were read first.
-pub(crate) fn copy_plane(
-    plane: &mut [u8],
-    stride: usize,
-    part: Sides,
-    from_x: usize,
-    from_y: usize,
-)
+pub(crate) fn copy_plane(plane: &mut [u8], stride: usize, part: Sides, from_x: usize, from_y: usize)
     requires across { part.left ≤ part.right }
     requires wide { part.right ≤ stride }
     requires down { part.top ≤ part.bottom }
