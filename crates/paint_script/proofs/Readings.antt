@@ -103,9 +103,10 @@ pub read-version_2 : (file rest : List ℕ) → file ≡ version_line ++ rest �
 unfolding script_of
 read-version_2 file rest e =
     let has : has_version_line file ≡ true = (starts file).1 rest e in
-    let left : drop (length version_line) file ≡ rest = ap (drop (length version_line)) e in
-    (sym (cond-true (has_version_line file) 2 1 has),
-    cond-true (has_version_line file) _ _ has ∙ ap (λ (l : List ℕ). pieces_script 2 2 (pieces_of l)) left)
+    let left : drop (length version_line) file ≡ rest = ap (drop (length version_line)) e in (
+      sym (cond-true (has_version_line file) 2 1 has),
+      cond-true (has_version_line file) _ _ has ∙ ap (λ (l : List ℕ). pieces_script 2 2 (pieces_of l)) left,
+    )
 
 -- any other file
 pub read-version_1 : (file : List ℕ) → ((rest : List ℕ) → file ≡ version_line ++ rest → ⊥) → (1 ≡ version_of file) × (script_of file ≡ pieces_script 1 1 (pieces_of file))

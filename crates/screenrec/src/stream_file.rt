@@ -79,9 +79,9 @@ fn play_line<F: Shelf>(
 
 /// The line of this number.
 pub(crate) fn line_at(script: &Script, index: u32) -> &Line
-    requires inside { index < length script.now }
-    requires spellable { AreSpellable script.now }
-    ensures line { result.now ≡ slice_index_or script.now index result.now }
+    requires inside { index < length script.now.lines }
+    requires spellable { AreSpellable script.now.lines }
+    ensures line { result.now ≡ slice_index_or script.now.lines index result.now }
     ensures spellable { IsSpellable result.now }
 {
     match script.line(index) {
@@ -98,7 +98,7 @@ fn write_pictures<F: Shelf>(
     shelf: &mut F,
     first: u64,
 ) -> Ending
-    requires few { length script.now ≤ most_lines }
+    requires few { length script.now.lines ≤ most_lines }
     requires played { HasPlayed stage.encoder.settings stage [] }
     requires first { first ≡ length (stream_after stage.encoder.settings []) }
     requires short { first < 2 ^ 40 }
@@ -106,7 +106,7 @@ fn write_pictures<F: Shelf>(
     ensures reads { F.read_faults shelf.new ≡ F.read_faults shelf.old }
     ensures files { WhereTold (F.files shelf.old) (F.files shelf.new) (λ before after. (start : Files) →
         before ≡ insert start name.now (stream_after stage.encoder.settings []) →
-        EndsIn stage.encoder.settings name.now script.now start after result.result result.written) }
+        EndsIn stage.encoder.settings name.now script.now.lines start after result.result result.written) }
 {
     let mut written = first;
     for index in 0..script.lines() {
@@ -140,11 +140,11 @@ pub fn write_stream<F: Shelf>(
     shelf: &mut F,
 ) -> Result<Ending, WriteError>
     requires effort { settings.now.effort ≤ 2 }
-    requires few { length script.now ≤ most_lines }
+    requires few { length script.now.lines ≤ most_lines }
     ensures cause { HasWriteCause (F.write_faults shelf.old) (F.write_faults shelf.new) (ending_of result) }
     ensures reads { F.read_faults shelf.new ≡ F.read_faults shelf.old }
     ensures files { WhereTold (F.files shelf.old) (F.files shelf.new) (λ before after.
-        EndsAnew (settings_view settings.now) name.now script.now before after result) }
+        EndsAnew (settings_view settings.now) name.now script.now.lines before after result) }
 {
     let Ok(start) = make_start(alloc, settings) else {
         return Err(WriteError::NoMemory);
@@ -173,7 +173,7 @@ fn make_start(alloc: Global, settings: &Settings) -> Result<Start, NoMemory>
 
 // Appends the first piece to the empty file, and then those of the pictures.
 fn write_pieces<F: Shelf>(script: &Script, start: Start, name: &str, shelf: &mut F) -> Ending
-    requires few { length script.now ≤ most_lines }
+    requires few { length script.now.lines ≤ most_lines }
     requires played { HasPlayed start.stage.encoder.settings start.stage [] }
     requires first { start.first.items ≡ stream_after start.stage.encoder.settings [] }
     requires short { length start.first.items < 2 ^ 40 }
@@ -181,7 +181,7 @@ fn write_pieces<F: Shelf>(script: &Script, start: Start, name: &str, shelf: &mut
     ensures reads { F.read_faults shelf.new ≡ F.read_faults shelf.old }
     ensures files { WhereTold (F.files shelf.old) (F.files shelf.new) (λ before after. (before_that : Files) →
         before ≡ insert before_that name.now [] →
-        EndsIn start.stage.encoder.settings name.now script.now before_that after result.result result.written) }
+        EndsIn start.stage.encoder.settings name.now script.now.lines before_that after result.result result.written) }
 {
     let Start { first, stage } = start;
     if let Err(error) = shelf.append(name, &first) {
