@@ -62,7 +62,7 @@ impl Stage {
         self.encoder.first()
     }
 
-    /// Paints a fill or a blit.
+    /// Paints a line that is no cut.
     pub fn paint(&mut self, line: &Line)
         requires paints { is_cut line.now ≡ false }
         requires pixels { HasPixels line.now }
