@@ -13,20 +13,38 @@ def paint(desktop, wide, high, line):
         desktop[start:start + 3 * shown] = colours[first:first + 3 * shown]
 
 
+def copy(desktop, wide, high, line):
+    """Copies a rectangle: all of it is read first, and a place is painted where it and its source lie on the desktop."""
+    left, top, width, height, to_left, to_top = map(int, line.split(" ")[1:])
+    shown = min(width, wide - left, wide - to_left)
+    if shown <= 0:
+        return
+    rows = [
+        desktop[3 * ((top + row) * wide + left):3 * ((top + row) * wide + left + shown)]
+        for row in range(min(height, high - top, high - to_top))
+    ]
+    for row, samples in enumerate(rows):
+        start = 3 * ((to_top + row) * wide + to_left)
+        desktop[start:start + 3 * shown] = samples
+
+
 def painted_frames(lines, wide, high):
     """The desktop at each cut."""
     desktop = bytearray(3 * wide * high)
     for line in lines:
         if line == "cut":
             yield bytes(desktop)
+        elif line.startswith("copy "):
+            copy(desktop, wide, high, line)
         else:
             paint(desktop, wide, high, line)
 
 
 def read_lines(name):
-    """The lines of a paint file."""
+    """The lines of a paint file, without the one that says version 2."""
     with open(name, encoding="ascii") as script:
-        return script.read().splitlines()
+        lines = script.read().splitlines()
+    return lines[1:] if lines[:1] == ["paint 2"] else lines
 
 
 def as_ppm(frame, wide, high):

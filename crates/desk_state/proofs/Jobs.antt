@@ -8,10 +8,10 @@ use Rattle.h265_model.specs.declared.job.Job.{Job}
 use Rattle.recorder_model.specs.declared.line.Line.{Line}
 use Rattle.recorder_model.specs.declared.line.Line.TheVariants.{Cut}
 use Rattle.h265_model.specs.Plain.{Size, place_values}
-use Rattle.h265_model.specs.Raster.{black}
 use Rattle.recorder_model.specs.Script.{is_cut}
 use Rattle.h265_model.specs.Raster.{Raster}
-use Rattle.recorder_model.specs.Painting.{raster, colour, repainted, rasters_after}
+use Rattle.recorder_model.specs.Painting.{painted, unpainted}
+use Rattle.recorder_model.specs.Painting.{raster, colour, rasters_after}
 use Rattle.recorder_model.specs.Desk.{touched_by}
 use Rattle.h265_model.specs.Tiles.{job_for}
 use Rattle.px_plane.specs.Planes.{Planes, Shows}
@@ -62,7 +62,7 @@ painted_after lines line taken old new jobs cuts paints most size shows flags is
 -- a cut paints nothing
 pub cut_raster : (size : Size) (lines : List Line) → raster size (lines ++ Cut ∷ []) ≡ raster size lines
 unfolding raster colour
-cut_raster size lines = λ i. place_values size.w size.h (λ x y. fold_push (repainted x y) black lines Cut i)
+cut_raster size lines = λ i. place_values size.w size.h (fold_push (painted size) unpainted lines Cut i)
 
 cut_shows : (p : Planes) (lines : List Line) → ShowsLines p lines → ShowsLines p (lines ++ Cut ∷ [])
 cut_shows p lines shows = subst (Shows p) (sym (cut_raster p.size lines)) shows

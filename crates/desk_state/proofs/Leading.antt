@@ -7,7 +7,7 @@ use Rattle.std.proofs.lemmas.List.{append-nil}
 use Rattle.std.proofs.lemmas.List.Sums.{sum_by-cons}
 use Rattle.recorder_model.specs.declared.entry.Entry.{Entry}
 use Rattle.recorder_model.specs.declared.line.Line.{Line}
-use Rattle.recorder_model.specs.declared.line.Line.TheVariants.{Fill, Blit, Cut}
+use Rattle.recorder_model.specs.declared.line.Line.TheVariants.{Fill, Blit, Copy, Cut}
 use Rattle.h265_model.specs.Plain.{Size, Picture, below, place_values, ctu_x, ctu_y}
 use Rattle.recorder_model.specs.Script.{is_cut}
 use Rattle.recorder_model.specs.Setting.{Setting}
@@ -55,6 +55,9 @@ at_first_cut size before (Fill r c ∷ lines) some =
 at_first_cut size before (Blit r pixels ∷ lines) some =
     at_first_cut size (before ++ Blit r pixels ∷ []) lines (omega (arith, count-cons (Blit r pixels) lines))
     ∙ ap (raster size) (append_assoc before (Blit r pixels ∷ []) (part_of lines 0) ∙ ap (λ (l : List Line). before ++ l) (sym (first_part (Blit r pixels) lines refl)))
+at_first_cut size before (Copy r to_x to_y ∷ lines) some =
+    at_first_cut size (before ++ Copy r to_x to_y ∷ []) lines (omega (arith, count-cons (Copy r to_x to_y) lines))
+    ∙ ap (raster size) (append_assoc before (Copy r to_x to_y ∷ []) (part_of lines 0) ∙ ap (λ (l : List Line). before ++ l) (sym (first_part (Copy r to_x to_y) lines refl)))
 at_first_cut size before (Cut ∷ lines) some = ap (raster size) (sym (append-nil before))
 
 -- two pictures one after another: the second shows one part more
@@ -72,6 +75,9 @@ at_next_cut size before (Fill r c ∷ lines) n less =
 at_next_cut size before (Blit r pixels ∷ lines) n less =
     let k = at_next_cut size (before ++ Blit r pixels ∷ []) lines n (omega (arith, count-cons (Blit r pixels) lines)) in
     subst (AreNext size _ _) (sym (later_part (Blit r pixels) lines n refl)) k
+at_next_cut size before (Copy r to_x to_y ∷ lines) n less =
+    let k = at_next_cut size (before ++ Copy r to_x to_y ∷ []) lines n (omega (arith, count-cons (Copy r to_x to_y) lines)) in
+    subst (AreNext size _ _) (sym (later_part (Copy r to_x to_y) lines n refl)) k
 at_next_cut size before (Cut ∷ lines) zero less = record {
   front = before ++ Cut ∷ [];
   is_earlier = sym (cut_raster size before);
@@ -89,7 +95,7 @@ same_sample : (size : Size) (front part : List Line) (c x y : ℕ) → (Contains
 same_sample size front part c x y off =
     coded_lines size front c x y ∙ go (nat_lt x size.w && nat_lt y size.h) refl ∙ sym (coded_lines size (front ++ part) c x y)
   where
-    go : (b : Bool) → (nat_lt x size.w && nat_lt y size.h) ≡ b → cond b (component c (colour front x y)) 0 ≡ cond b (component c (colour (front ++ part) x y)) 0
+    go : (b : Bool) → (nat_lt x size.w && nat_lt y size.h) ≡ b → cond b (component c (colour size front x y)) 0 ≡ cond b (component c (colour size (front ++ part) x y)) 0
     go true e =
         let across : x < size.w = grind (arith, nat_tests) in
         let down : y < size.h = grind (arith, nat_tests) in

@@ -4,7 +4,7 @@ use Rattle.std.specs.Prelude.{count_by}
 use Rattle.std.proofs.lemmas.List.Sums.{sum_by-cons}
 use Rattle.std.proofs.lemmas.List.{append-nil}
 use Rattle.recorder_model.specs.declared.line.Line.{Line}
-use Rattle.recorder_model.specs.declared.line.Line.TheVariants.{Fill, Blit, Cut}
+use Rattle.recorder_model.specs.declared.line.Line.TheVariants.{Fill, Blit, Copy, Cut}
 use Rattle.h265_model.specs.Plain.{Size}
 use Rattle.recorder_model.specs.Script.{is_cut}
 use Rattle.h265_model.specs.Raster.{Raster}
@@ -15,9 +15,11 @@ pub rasters_kept : (size : Size) (before xs : List Line) (line : Line) → is_cu
 unfolding rasters_after
 rasters_kept size before [] (Fill r c) paints = refl
 rasters_kept size before [] (Blit r pixels) paints = refl
+rasters_kept size before [] (Copy r to_x to_y) paints = refl
 rasters_kept size before [] Cut paints = cc
 rasters_kept size before (Fill r c ∷ xs) line paints = rasters_kept size (before ++ Fill r c ∷ []) xs line paints
 rasters_kept size before (Blit r pixels ∷ xs) line paints = rasters_kept size (before ++ Blit r pixels ∷ []) xs line paints
+rasters_kept size before (Copy r to_x to_y ∷ xs) line paints = rasters_kept size (before ++ Copy r to_x to_y ∷ []) xs line paints
 rasters_kept size before (Cut ∷ xs) line paints = ap (λ (l : List Raster). raster size before ∷ l) (rasters_kept size (before ++ Cut ∷ []) xs line paints)
 
 -- a cut adds what is shown
@@ -26,6 +28,7 @@ unfolding rasters_after
 rasters_cut size before [] = ap (λ (l : List Line). raster size l ∷ []) (sym (append-nil before))
 rasters_cut size before (Fill r c ∷ xs) = rasters_cut size (before ++ Fill r c ∷ []) xs ∙ ap (λ (l : List Line). rasters_after size (before ++ Fill r c ∷ []) xs ++ raster size l ∷ []) (append_assoc before (Fill r c ∷ []) xs)
 rasters_cut size before (Blit r pixels ∷ xs) = rasters_cut size (before ++ Blit r pixels ∷ []) xs ∙ ap (λ (l : List Line). rasters_after size (before ++ Blit r pixels ∷ []) xs ++ raster size l ∷ []) (append_assoc before (Blit r pixels ∷ []) xs)
+rasters_cut size before (Copy r to_x to_y ∷ xs) = rasters_cut size (before ++ Copy r to_x to_y ∷ []) xs ∙ ap (λ (l : List Line). rasters_after size (before ++ Copy r to_x to_y ∷ []) xs ++ raster size l ∷ []) (append_assoc before (Copy r to_x to_y ∷ []) xs)
 rasters_cut size before (Cut ∷ xs) =
     ap (λ (l : List Raster). raster size before ∷ l)
     (rasters_cut size (before ++ Cut ∷ []) xs ∙ ap (λ (l : List Line). rasters_after size (before ++ Cut ∷ []) xs ++ raster size l ∷ []) (append_assoc before (Cut ∷ []) xs))
@@ -36,6 +39,7 @@ unfolding rasters_after
 length-rasters_after size before [] = refl
 length-rasters_after size before (Fill r c ∷ xs) = length-rasters_after size (before ++ Fill r c ∷ []) xs
 length-rasters_after size before (Blit r pixels ∷ xs) = length-rasters_after size (before ++ Blit r pixels ∷ []) xs
+length-rasters_after size before (Copy r to_x to_y ∷ xs) = length-rasters_after size (before ++ Copy r to_x to_y ∷ []) xs
 length-rasters_after size before (Cut ∷ xs) =
     ap (λ (n : ℕ). suc n) (length-rasters_after size (before ++ Cut ∷ []) xs) ∙ (let e = sum_by-cons (λ line. if is_cut line then 1 else 0) Cut xs in omega arith)
 

@@ -1,19 +1,19 @@
 -- Lines leave the places of the tiles that they don't paint in.
 use Rattle.std.proofs.Common.{◌≡◌, ℕ, zero, suc, ◌+◌, ◌-◌, ◌*◌, ◌/◌, ◌<◌, ◌≤◌, ◌||◌, Bool, true, false, if◌then◌else◌, List, [], ◌∷◌, ◌++◌, length, refl, sym, ap, subst, ◌∙◌, arith, inl, inr}
-use Rattle.std.specs.Prelude.{filter, fold, slice_index_or}
+use Rattle.std.specs.Prelude.{◌&&◌, nat_lt, filter, fold, slice_index_or}
 use Rattle.std.specs.List.{AllByRecursion, Contains, range_with_len}
 use Rattle.std.proofs.lemmas.Bool.{cases_eq}
 use Rattle.std.proofs.lemmas.Bool.Decides.{nat_tests}
 use Rattle.std.proofs.lemmas.Nat.{mod-mul-add, div-mul-add, mul-le}
 use Rattle.std.proofs.lemmas.List.Sums.{fold-append}
 use Rattle.recorder_model.specs.declared.line.Line.{Line}
-use Rattle.recorder_model.specs.declared.line.Line.TheVariants.{Fill, Blit, Cut}
+use Rattle.recorder_model.specs.declared.line.Line.TheVariants.{Fill, Blit, Copy, Cut}
 use Rattle.h265_model.specs.declared.rect.Rect.{Rect}
-use Rattle.h265_model.specs.declared.rgb.Rgb.{Rgb}
 use Rattle.h265_model.specs.Raster.{black}
 use Rattle.h265_model.specs.Plain.{Size, ctus, ctu_x, ctu_y}
-use Rattle.h265_model.specs.Raster.{paints}
-use Rattle.recorder_model.specs.Painting.{repainted, colour}
+use Rattle.h265_model.specs.Raster.{paints, target, source_x, source_y}
+use Rattle.recorder_model.specs.Painting.{Shown, painted, unpainted}
+use Rattle.recorder_model.specs.Painting.{colour}
 use Rattle.recorder_model.specs.Desk.{meets_tile, touches, is_touched, touched_by}
 use Rattle.h265_model.specs.Tiles.{tile_count}
 use Rattle.px_plane.specs.Tiles.{tile_of}
@@ -46,25 +46,29 @@ not_painted size r x y across down off = go (paints r x y) refl
     go true e = absurd (let on = meets size r x y across down e in cc)
     go false e = e
 
-kept : (size : Size) (x y : ℕ) (before : Rgb) (line : Line) → x < size.w → y < size.h → touches size (tile_of size x y) line ≡ false → repainted x y before line ≡ before
-kept size x y before (Fill r c) across down off = ap (λ b. if b then c else before) (not_painted size r x y across down off)
-kept size x y before (Blit r pixels) across down off = ap (λ b. if b then slice_index_or pixels ((y - r.y) * r.w + (x - r.x)) black else before) (not_painted size r x y across down off)
-kept size x y before Cut across down off = refl
+kept : (size : Size) (x y : ℕ) (shown : Shown) (line : Line) → x < size.w → y < size.h → touches size (tile_of size x y) line ≡ false → painted size shown line x y ≡ shown x y
+kept size x y shown (Fill r c) across down off = ap (λ b. if b then c else shown x y) (not_painted size r x y across down off)
+kept size x y shown (Blit r pixels) across down off = ap (λ b. if b then slice_index_or pixels ((y - r.y) * r.w + (x - r.x)) black else shown x y) (not_painted size r x y across down off)
+kept size x y shown (Copy r to_x to_y) across down off =
+    ap (λ b. if b && nat_lt (source_x r to_x x) size.w && nat_lt (source_y r to_y y) size.h then shown (source_x r to_x x) (source_y r to_y y) else shown x y)
+    (not_painted size (target r to_x to_y) x y across down off)
+kept size x y shown Cut across down off = refl
 
-all_kept : (size : Size) (x y : ℕ) (before : Rgb) (lines : List Line) → x < size.w → y < size.h → is_touched size lines (tile_of size x y) ≡ false → fold (repainted x y) before lines ≡ before
-all_kept size x y before [] across down off = refl
-all_kept size x y before (line ∷ lines) across down off =
+all_kept : (size : Size) (x y : ℕ) (shown : Shown) (lines : List Line) → x < size.w → y < size.h → is_touched size lines (tile_of size x y) ≡ false → fold (painted size) shown lines x y ≡ shown x y
+all_kept size x y shown [] across down off = refl
+all_kept size x y shown (line ∷ lines) across down off =
     let both = neither (touches size (tile_of size x y) line) (is_touched size lines (tile_of size x y)) off in
-    ap (λ (c : Rgb). fold (repainted x y) c lines) (kept size x y before line across down both.0) ∙ all_kept size x y before lines across down both.1
+    all_kept size x y (painted size shown line) lines across down both.1 ∙ kept size x y shown line across down both.0
   where
     neither : (a b : Bool) → (a || b) ≡ false → (a ≡ false) × (b ≡ false)
     neither true b e = absurd cc
     neither false b e = (refl, e)
 
 -- the colour of a place after lines that don't paint in its tile
-pub colour_kept : (size : Size) (x y : ℕ) (front lines : List Line) → x < size.w → y < size.h → is_touched size lines (tile_of size x y) ≡ false → colour (front ++ lines) x y ≡ colour front x y
+pub colour_kept : (size : Size) (x y : ℕ) (front lines : List Line) → x < size.w → y < size.h → is_touched size lines (tile_of size x y) ≡ false → colour size (front ++ lines) x y ≡ colour size front x y
 unfolding colour
-colour_kept size x y front lines across down off = fold-append (repainted x y) black front lines ∙ all_kept size x y (fold (repainted x y) black front) lines across down off
+colour_kept size x y front lines across down off =
+    ap (λ (shown : Shown). shown x y) (fold-append (painted size) unpainted front lines) ∙ all_kept size x y (fold (painted size) unpainted front) lines across down off
 
 contains_later : (x y : ℕ) (xs : List ℕ) → Contains xs x → Contains (y ∷ xs) x
 contains_later x y xs is = (suc is.0, omega (arith, is.1), is.2)

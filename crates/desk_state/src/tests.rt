@@ -1,7 +1,7 @@
 //! One desk on one thread.
 ghost use Rattle.std.specs.Prelude.{ℕ, ◌≡◌, ◌≢◌, ◌<◌, ◌∷◌, [], length, IfOk, OnOk};
 ghost use Rattle.recorder_model.specs.Histories.{indexes_of, script_length};
-ghost use Rattle.paint_script.specs.Spellable.{IsSpellable, IsSpellableRect};
+ghost use Rattle.paint_script.specs.Spellable.{IsSpellable, IsOfVersion, IsSpellableRect};
 ghost use Rattle.desk_state.specs.Standing.{most_entries};
 
 use crate::{DeskState, Entry, Job, NoMemory, Scripts, Size};
@@ -13,7 +13,8 @@ use std::test::Fail;
 
 fn white(rect: Rect) -> Line
     requires { IsSpellableRect rect }
-    ensures { IsSpellable result }
+    ensures spellable { IsSpellable result }
+    ensures version { IsOfVersion 1 result }
 {
     let colour = Rgb {
         r: 255,
@@ -26,7 +27,7 @@ fn white(rect: Rect) -> Line
 // One paint and one cut.
 fn script(alloc: Global, rect: Rect) -> Result<Script, NoMemory>
     requires { IsSpellableRect rect }
-    ensures { IfOk result (λ script. length script ≡ 2) }
+    ensures { IfOk result (λ script. length script.lines ≡ 2) }
 {
     let mut script = Script::empty(alloc);
     script.add(white(rect))?;

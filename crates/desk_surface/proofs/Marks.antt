@@ -4,7 +4,7 @@ use Rattle.std.proofs.lemmas.List.{get_or-replicate, length-replicate}
 use Rattle.std.proofs.lemmas.List.Folds.{list_any-append}
 use Rattle.std.proofs.lemmas.List.FromFn.{fill_by_all, get_or-map-range_with_len, length-map-range_with_len}
 use Rattle.recorder_model.specs.declared.line.Line.{Line}
-use Rattle.recorder_model.specs.declared.line.Line.TheVariants.{Fill, Blit, Cut}
+use Rattle.recorder_model.specs.declared.line.Line.TheVariants.{Fill, Blit, Copy, Cut}
 use Rattle.h265_model.specs.declared.rect.Rect.{Rect}
 use Rattle.h265_model.specs.Plain.{Size, below}
 use Rattle.recorder_model.specs.Desk.{meets_tile, touches, is_touched}
@@ -18,6 +18,7 @@ or_nothing false = refl
 touches_rect : (size : Size) (t : ℕ) (line : Line) (rect : Rect) → IsOfRect line rect → touches size t line ≡ meets_tile size t rect
 touches_rect size t (Fill r colour) rect is = ap (meets_tile size t) is
 touches_rect size t (Blit r pixels) rect is = ap (meets_tile size t) is
+touches_rect size t (Copy r to_x to_y) rect is = ap (meets_tile size t) is
 touches_rect size t Cut rect is = absurd is
 
 -- one more line paints in the tiles of the lines before, and in those that its rectangle meets

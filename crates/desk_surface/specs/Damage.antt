@@ -1,9 +1,10 @@
 -- A desktop with a flag for each of its tiles.
 use Rattle.std.specs.Prelude.{◌≡◌, ℕ, zero, suc, ◌*◌, Bool, ◌&&◌, List, [], ◌∷◌, ◌++◌, length, map, nat_le, nat_lt, slice_index_or, false, if◌then◌else◌}
 use Rattle.recorder_model.specs.declared.line.Line.{Line}
-use Rattle.recorder_model.specs.declared.line.Line.TheVariants.{Fill, Blit, Cut}
+use Rattle.recorder_model.specs.declared.line.Line.TheVariants.{Fill, Blit, Copy, Cut}
 use Rattle.h265_model.specs.declared.rect.Rect.{Rect}
 use Rattle.h265_model.specs.Plain.{below}
+use Rattle.h265_model.specs.Raster.{target}
 use Rattle.recorder_model.specs.Desk.{is_touched}
 use Rattle.h265_model.specs.Tiles.{tile_count}
 use Rattle.px_plane.specs.Planes.{Planes}
@@ -25,6 +26,7 @@ HasPixels _ = Unit {0}
 abbrev pub IsOfRect : Line → Rect → Type 0
 IsOfRect (Fill r colour) rect = r ≡ rect
 IsOfRect (Blit r pixels) rect = r ≡ rect
+IsOfRect (Copy r to_x to_y) rect = target r to_x to_y ≡ rect
 IsOfRect Cut rect = ⊥
 
 -- a place in the columns from left to before right and the rows from top to before bottom

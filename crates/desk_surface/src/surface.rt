@@ -71,7 +71,8 @@ impl Surface {
         raise(&mut self.flags, size, rect);
     }
 
-    /// Paints a fill or a blit, and raises the flag of each tile that the part of its rectangle in the desktop meets.
+    /// Paints a line, and raises the flag of each tile that the part of its rectangle in the desktop meets: of a copy that is
+    /// the target, wherever its sources lie.
     pub fn apply(&mut self, line: &Line)
         requires paints { is_cut line.now ≡ false }
         requires pixels { HasPixels line.now }
@@ -87,6 +88,15 @@ impl Surface {
             Line::Blit { rect, pixels } => {
                 self.picture.blit(*rect, pixels.as_slice());
                 self.touch(*rect);
+            }
+            Line::Copy { rect, to_x, to_y } => {
+                self.picture.copy(*rect, *to_x, *to_y);
+                self.touch(Rect {
+                    x: *to_x,
+                    y: *to_y,
+                    w: rect.w,
+                    h: rect.h,
+                });
             }
             Line::Cut => {}
         }

@@ -1,5 +1,5 @@
 -- Rasters of colours, and the planes that H.265 codes of them.
-use Rattle.std.specs.Prelude.{ℕ, zero, suc, ◌+◌, ◌*◌, Bool, ◌&&◌, List, [], ◌∷◌, nat_lt, nat_le, slice_index_or, slice_index, if◌then◌else◌, ◌≡◌, ◌<◌, length}
+use Rattle.std.specs.Prelude.{◌-◌, ℕ, zero, suc, ◌+◌, ◌*◌, Bool, ◌&&◌, List, [], ◌∷◌, nat_lt, nat_le, slice_index_or, slice_index, if◌then◌else◌, ◌≡◌, ◌<◌, length}
 use Rattle.std.specs.List.{AllByRecursion}
 use Rattle.h265_model.specs.Plain.{Size, Picture, coded, place_values}
 use Rattle.h265_model.specs.declared.rect.Rect.{Rect}
@@ -11,6 +11,21 @@ black = record { r = 0; g = 0; b = 0 }
 -- a rectangle has a place
 abbrev pub paints : Rect → ℕ → ℕ → Bool
 paints r x y = nat_le r.x x && nat_lt x (r.x + r.w) && nat_le r.y y && nat_lt y (r.y + r.h)
+
+-- the rectangle that a copy to a place paints
+abbrev pub target : Rect → ℕ → ℕ → Rect
+target r to_x to_y = record { x = to_x; y = to_y; w = r.w; h = r.h }
+
+-- the column and the row that a copy reads for a place of its target
+abbrev pub source_x : Rect → ℕ → ℕ → ℕ
+source_x r to_x x = r.x + (x - to_x)
+
+abbrev pub source_y : Rect → ℕ → ℕ → ℕ
+source_y r to_y y = r.y + (y - to_y)
+
+-- the place is in the target, and its source is in the desktop
+abbrev pub copies : Size → Rect → ℕ → ℕ → ℕ → ℕ → Bool
+copies size r to_x to_y x y = paints (target r to_x to_y) x y && nat_lt (source_x r to_x x) size.w && nat_lt (source_y r to_y y) size.h
 
 -- the colours of all places of a picture, in rows from the top
 abbrev pub Raster : Type 0

@@ -1,6 +1,6 @@
 //! Desks of one thread and of many.
 ghost use Rattle.std.specs.Prelude.{◌≡◌, ◌-◌, ◌^◌, ◌<◌, ◌≤◌, length, IfOk, OnOk, ◌++◌, ◌∷◌, []};
-ghost use Rattle.paint_script.specs.Spellable.{IsSpellable};
+ghost use Rattle.paint_script.specs.Spellable.{IsSpellable, IsOfVersion};
 ghost use Rattle.desk_state.specs.Standing.{most_entries};
 
 use crate::{Accepted, Desk, Entry, NoMemory, PlayError, Scripts, Size, Taken, TryPlayError};
@@ -13,7 +13,8 @@ use std::test::Fail;
 // Line number `index` of a client: each twentieth one is a cut.
 fn line_of(client: u32, index: u32) -> Line
     requires { (client < 64) × (index < 1000) }
-    ensures { IsSpellable result }
+    ensures spellable { IsSpellable result }
+    ensures version { IsOfVersion 1 result }
 {
     if index % 20 == 19 {
         return Line::Cut;
@@ -34,7 +35,7 @@ fn line_of(client: u32, index: u32) -> Line
 
 fn script_of(alloc: Global, client: u32, lines: u32) -> Result<Script, NoMemory>
     requires { (client < 64) × (lines ≤ 200) }
-    ensures { IfOk result (λ script. length script ≡ lines) }
+    ensures { IfOk result (λ script. length script.lines ≡ lines) }
 {
     let mut script = Script::empty(alloc);
     for index in 0..lines {
@@ -44,7 +45,7 @@ fn script_of(alloc: Global, client: u32, lines: u32) -> Result<Script, NoMemory>
 }
 
 fn add_script(scripts: &mut Scripts, script: Script) -> Result<(), NoMemory>
-    ensures { OnOk result (scripts.new ≡ scripts.old ++ script ∷ []) }
+    ensures { OnOk result (scripts.new ≡ scripts.old ++ script.lines ∷ []) }
 {
     match scripts.add(script) {
         Ok(()) => Ok(()),

@@ -1,5 +1,5 @@
 -- What is written is read back.
-use Rattle.std.proofs.Common.{◌≡◌, ℕ, ◌+◌, ◌-◌, ◌*◌, ◌/◌, ◌%◌, ◌<◌, ◌≤◌, true, false, not, ◌&&◌, ◌||◌, ◌==◌, nat_le, nat_lt, List, [], ◌∷◌, ◌++◌, length, get_or, take, refl, sym, ap, ◌∙◌, arith, Option, Some, None, Ok, inl, inr, if◌then◌else◌}
+use Rattle.std.proofs.Common.{◌≡◌, ◌⊎◌, subst, ℕ, ◌+◌, ◌-◌, ◌*◌, ◌/◌, ◌%◌, ◌<◌, ◌≤◌, true, false, not, ◌&&◌, ◌||◌, ◌==◌, nat_le, nat_lt, List, [], ◌∷◌, ◌++◌, length, get_or, take, refl, sym, ap, ◌∙◌, arith, Option, Some, None, Ok, inl, inr, if◌then◌else◌}
 use Rattle.std.specs.Prelude.{decimal, codes, flat_map}
 use Rattle.std.specs.List.{All, slice_split}
 use Rattle.std.specs.Int.{IsInRange}
@@ -13,19 +13,19 @@ use Rattle.std.specs.Option.{option_copied, is_some}
 use Rattle.std.proofs.lemmas.List.Elements.{All-nil, All-cons, All-head, All-tail, All-append, All-weaker, All-from_recursion}
 use Rattle.std.proofs.lemmas.List.Splits.{slice_split_at, slice_split_none}
 use Rattle.std.proofs.lemmas.Bool.{cond-true, cond-false, ne_eqb, le-leb, lt-leb, lt-ltb, le-ltb, and_from, and_right, cases_lt, or_from}
-use Rattle.recorder_model.specs.Script.{most_number, most_pixels, hex_digit, hex_value, byte_at, colour_text, spaced, rect_text, line_text, script_text, all_digits, is_numeral, number_up_to, colours, n_colours, rect_of, fill_of, blit_of, line_of, pieces_script, script_of, at_line}
+use Rattle.recorder_model.specs.Script.{most_number, most_pixels, hex_digit, hex_value, byte_at, colour_text, spaced, rect_text, line_text, lines_text, script_text, version_line, all_digits, is_numeral, number_up_to, colours, n_colours, rect_of, fill_of, blit_of, copy_of, line_of, pieces_script, script_of, at_line}
 use Rattle.h265_model.specs.Bits.{◌>>-◌}
 use Rattle.h265_model.specs.declared.rect.Rect.{Rect}
 use Rattle.h265_model.specs.declared.rgb.Rgb.{Rgb}
 use Rattle.recorder_model.specs.declared.line.Line.{Line}
-use Rattle.recorder_model.specs.declared.line.Line.TheVariants.{Fill, Blit, Cut}
-use Rattle.paint_script.specs.Spellable.{IsSpellableRect, IsSpellableColour, AreSpellablePixels, IsSpellable, AreSpellable}
-use Rattle.paint_script.specs.Laws.{EachScriptIsReadBack}
+use Rattle.recorder_model.specs.declared.line.Line.TheVariants.{Fill, Blit, Copy, Cut}
+use Rattle.paint_script.specs.Spellable.{IsVersion, IsSpellableRect, IsSpellableColour, AreSpellablePixels, IsSpellable, IsOfVersion, AreSpellable, AreOfVersion}
+use Rattle.paint_script.specs.Laws.{IsReadAs, EachScriptIsReadBack}
 use Rattle.paint_script.proofs.Numbers.{number_up_to-numeral}
 use Rattle.paint_script.proofs.Colours.{colours-nil, n_colours-some}
 use Rattle.paint_script.proofs.Lines.{line_of-words}
 use Rattle.paint_script.proofs.Splits.{split-first}
-use Rattle.paint_script.proofs.Readings.{pieces-line, pieces_of}
+use Rattle.paint_script.proofs.Readings.{pieces-line, pieces_of, read-version_1, read-version_2}
 
 -- ---- words have no spaces, and lines no line feeds
 
@@ -180,6 +180,26 @@ blit_word = All-from_recursion IsWordByte (codes "blit") (omega arith, (omega ar
 cut_word : All IsWordByte (codes "cut")
 cut_word = All-from_recursion IsWordByte (codes "cut") (omega arith, (omega arith, (omega arith, tt)))
 
+copy_word : All IsWordByte (codes "copy")
+copy_word = All-from_recursion IsWordByte (codes "copy") (omega arith, (omega arith, (omega arith, (omega arith, tt))))
+
+-- the seven words of a copy
+grouped_copy : (command x y w h to_x to_y : List ℕ) → command ++ (32 ∷ x ++ 32 ∷ y ++ 32 ∷ w ++ 32 ∷ h) ++ 32 ∷ to_x ++ 32 ∷ to_y ≡ command ++ 32 ∷ (x ++ 32 ∷ (y ++ 32 ∷ (w ++ 32 ∷ (h ++ 32 ∷ (to_x ++ 32 ∷ to_y)))))
+grouped_copy command x y w h to_x to_y =
+    append_assoc (command ++ (32 ∷ x ++ 32 ∷ y ++ 32 ∷ w ++ 32 ∷ h)) (32 ∷ to_x) (32 ∷ to_y) ∙ grouped command x y w h (to_x ++ 32 ∷ to_y)
+
+seven-words : (command x y w h to_x to_y : List ℕ) → All IsWordByte command → All IsWordByte x → All IsWordByte y → All IsWordByte w → All IsWordByte h → All IsWordByte to_x → All IsWordByte to_y
+    → words_of (command ++ (32 ∷ x ++ 32 ∷ y ++ 32 ∷ w ++ 32 ∷ h) ++ 32 ∷ to_x ++ 32 ∷ to_y) ≡ command ∷ x ∷ y ∷ w ∷ h ∷ to_x ∷ to_y ∷ []
+seven-words command x y w h to_x to_y a b c d e f g =
+    ap words_of (grouped_copy command x y w h to_x to_y)
+    ∙ word-first command _ a
+    ∙ ap (λ ws. command ∷ ws) (word-first x _ b
+    ∙ ap (λ ws. x ∷ ws) (word-first y _ c
+    ∙ ap (λ ws. y ∷ ws) (word-first w _ d
+    ∙ ap (λ ws. w ∷ ws) (word-first h _ e
+    ∙ ap (λ ws. h ∷ ws) (word-first to_x _ f
+    ∙ ap (λ ws. to_x ∷ ws) (word-last to_y g))))))
+
 sides-drawn : (r : Rect) → IsSpellableRect r → not (r.w == 0 || r.h == 0) ≡ true
 sides-drawn r s =
     ap not (or_from (r.w == 0) (r.h == 0) (ne_eqb r.w 0 (λ e. omega (arith, s.wide))) (ne_eqb r.h 0 (λ e. omega (arith, s.high))))
@@ -193,14 +213,21 @@ blit-read : (r : Rect) (pixels : List Rgb) → IsSpellableRect r → AreSpellabl
 blit-read r pixels s p =
     rw (rect-read r s, sides-drawn r s, le-leb (r.w * r.h) most_pixels p.few, n_colours-read (r.w * r.h) pixels p.count p.colours)
 
-line-read : (line : Line) → IsSpellable line → line_of (line_text line) ≡ Ok line
-line-read (Fill r c) s =
-    line_of-words (line_text (Fill r c)) (codes "fill") _ (six-words (codes "fill") (decimal r.x) (decimal r.y) (decimal r.w) (decimal r.h) (colour_text c) fill_word (decimal-word r.x s.0.x) (decimal-word r.y s.0.y) (decimal-word r.w s.0.w) (decimal-word r.h s.0.h) (colour-word c))
+copy-read : (r : Rect) (to_x to_y : ℕ) → IsSpellable (Copy r to_x to_y) → copy_of (decimal r.x ∷ decimal r.y ∷ decimal r.w ∷ decimal r.h ∷ decimal to_x ∷ decimal to_y ∷ []) ≡ Ok (Copy r to_x to_y)
+copy-read r to_x to_y s = rw (rect-read r s.0, number-read to_x s.1, number-read to_y s.2, sides-drawn r s.0)
+
+line-read : (version : ℕ) (line : Line) → IsSpellable line → IsOfVersion version line → line_of version (line_text line) ≡ Ok line
+line-read version (Fill r c) s v =
+    line_of-words version (line_text (Fill r c)) (codes "fill") _ (six-words (codes "fill") (decimal r.x) (decimal r.y) (decimal r.w) (decimal r.h) (colour_text c) fill_word (decimal-word r.x s.0.x) (decimal-word r.y s.0.y) (decimal-word r.w s.0.w) (decimal-word r.h s.0.h) (colour-word c))
     ∙ fill-read r c s.0 s.1
-line-read (Blit r pixels) s =
-    line_of-words (line_text (Blit r pixels)) (codes "blit") _ (six-words (codes "blit") (decimal r.x) (decimal r.y) (decimal r.w) (decimal r.h) (flat_map colour_text pixels) blit_word (decimal-word r.x s.0.x) (decimal-word r.y s.0.y) (decimal-word r.w s.0.w) (decimal-word r.h s.0.h) (colours-word pixels))
+line-read version (Blit r pixels) s v =
+    line_of-words version (line_text (Blit r pixels)) (codes "blit") _ (six-words (codes "blit") (decimal r.x) (decimal r.y) (decimal r.w) (decimal r.h) (flat_map colour_text pixels) blit_word (decimal-word r.x s.0.x) (decimal-word r.y s.0.y) (decimal-word r.w s.0.w) (decimal-word r.h s.0.h) (colours-word pixels))
     ∙ blit-read r pixels s.0 s.1
-line-read Cut s = line_of-words (codes "cut") (codes "cut") [] (word-last (codes "cut") cut_word)
+line-read version (Copy r to_x to_y) s v =
+    rw v
+    (line_of-words 2 (line_text (Copy r to_x to_y)) (codes "copy") _ (seven-words (codes "copy") (decimal r.x) (decimal r.y) (decimal r.w) (decimal r.h) (decimal to_x) (decimal to_y) copy_word (decimal-word r.x s.0.x) (decimal-word r.y s.0.y) (decimal-word r.w s.0.w) (decimal-word r.h s.0.h) (decimal-word to_x s.1) (decimal-word to_y s.2))
+    ∙ copy-read r to_x to_y s)
+line-read version Cut s v = line_of-words version (codes "cut") (codes "cut") [] (word-last (codes "cut") cut_word)
 
 -- ---- scripts
 
@@ -222,36 +249,65 @@ paint-bytes command last r a s b =
 line-bytes : (line : Line) → IsSpellable line → All IsLineByte (line_text line)
 line-bytes (Fill r c) s = paint-bytes (codes "fill") (colour_text c) r fill_word s.0 (colour-word c)
 line-bytes (Blit r pixels) s = paint-bytes (codes "blit") (flat_map colour_text pixels) r blit_word s.0 (colours-word pixels)
+line-bytes (Copy r to_x to_y) s =
+    All-append IsLineByte (codes "copy" ++ rect_text r ++ spaced to_x) (spaced to_y)
+    (All-append IsLineByte (codes "copy" ++ rect_text r) (spaced to_x) (All-append IsLineByte (codes "copy") (rect_text r) (lines_of_words (codes "copy") copy_word) (rect-bytes r s.0)) (spaced-bytes (decimal to_x) (decimal-word to_x s.1)))
+    (spaced-bytes (decimal to_y) (decimal-word to_y s.2))
 line-bytes Cut s = lines_of_words (codes "cut") cut_word
 
-lines-read : (n : ℕ) (lines : List Line) → AreSpellable lines → pieces_script n (pieces_of (flat_map (λ line. line_text line ++ 10 ∷ []) lines)) ≡ Ok lines
+lines-read : (version n : ℕ) (lines : List Line) → AreSpellable lines → AreOfVersion version lines → pieces_script version n (pieces_of (lines_text lines)) ≡ Ok lines
 unfolding pieces_script
-lines-read n [] s = refl
-lines-read n (line ∷ lines) s =
-    let rest = flat_map (λ l. line_text l ++ 10 ∷ []) lines in
+lines-read version n [] s v = refl
+lines-read version n (line ∷ lines) s v =
+    let rest = lines_text lines in
     let here = All-head IsSpellable line lines s in
     let cut : pieces_of ((line_text line ++ 10 ∷ []) ++ rest) ≡ line_text line ∷ pieces_of rest =
     ap pieces_of (append_assoc (line_text line) (10 ∷ []) rest) ∙ slice_split_at (λ c. c == 10) (line_text line) 10 rest (no_line_feed (line_text line) (line-bytes line here)) refl in
-    ap (pieces_script n) cut
-    ∙ pieces-line n (line_text line) (pieces_of rest) (split-first (λ c. c == 10) rest)
-    ∙ ap (λ r. at_line n r >>- λ l. pieces_script (n + 1) (pieces_of rest) >>- λ ls. Ok (l ∷ ls)) (line-read line here)
-    ∙ ap (λ r. r >>- λ ls. Ok (line ∷ ls)) (lines-read (n + 1) lines (All-tail IsSpellable line lines s))
+    ap (pieces_script version n) cut
+    ∙ pieces-line version n (line_text line) (pieces_of rest) (split-first (λ c. c == 10) rest)
+    ∙ ap (λ r. at_line n r >>- λ l. pieces_script version (n + 1) (pieces_of rest) >>- λ ls. Ok (l ∷ ls)) (line-read version line here (All-head (IsOfVersion version) line lines v))
+    ∙ ap (λ r. r >>- λ ls. Ok (line ∷ ls)) (lines-read version (n + 1) lines (All-tail IsSpellable line lines s) (All-tail (IsOfVersion version) line lines v))
+
+-- no line begins as the line that says version 2 does
+not_version_line : (lines : List Line) (rest : List ℕ) → lines_text lines ≡ version_line ++ rest → ⊥
+not_version_line [] rest e = absurd (let first : 0 ≡ 112 = ap (λ (l : List ℕ). get_or l 0 0) e in omega arith)
+not_version_line (Fill r c ∷ lines) rest e = absurd (let first : 102 ≡ 112 = ap (λ (l : List ℕ). get_or l 0 0) e in omega arith)
+not_version_line (Blit r pixels ∷ lines) rest e = absurd (let first : 98 ≡ 112 = ap (λ (l : List ℕ). get_or l 0 0) e in omega arith)
+not_version_line (Copy r to_x to_y ∷ lines) rest e = absurd (let first : 99 ≡ 112 = ap (λ (l : List ℕ). get_or l 0 0) e in omega arith)
+not_version_line (Cut ∷ lines) rest e = absurd (let first : 99 ≡ 112 = ap (λ (l : List ℕ). get_or l 0 0) e in omega arith)
+
+version-cases : (version : ℕ) → IsVersion version → (version ≡ 1) ⊎ (version ≡ 2)
+version-cases version is = elim (cases_lt version 2) [ inl low ↦ inl (omega (arith, is.low)) | inr high ↦ inr (omega (arith, is.high)) ]
 
 pub script-read : EachScriptIsReadBack
-unfolding script_of script_text
-script-read lines s = lines-read 1 lines s
-
-pub script_text-nil : script_text [] ≡ []
 unfolding script_text
-script_text-nil = refl
+script-read version lines is s v = go (version-cases version is)
+  where
+    go : (version ≡ 1) ⊎ (version ≡ 2) → IsReadAs (script_text version lines) version lines
+    go (inl one) =
+        let read = read-version_1 (lines_text lines) (not_version_line lines) in
+        let fit : AreOfVersion 1 lines = subst (λ (n : ℕ). AreOfVersion n lines) one v in
+        subst (λ (n : ℕ). IsReadAs (script_text n lines) n lines) (sym one)
+        (record { has_version = sym read.0; has_lines = read.1 ∙ lines-read 1 1 lines s fit })
+    go (inr two) =
+        let read = read-version_2 (version_line ++ lines_text lines) (lines_text lines) refl in
+        let fit : AreOfVersion 2 lines = subst (λ (n : ℕ). AreOfVersion n lines) two v in
+        subst (λ (n : ℕ). IsReadAs (script_text n lines) n lines) (sym two)
+        (record { has_version = sym read.0; has_lines = read.1 ∙ lines-read 2 2 lines s fit })
+
+pub script_text-nil : (version : ℕ) → script_text version [] ≡ (if version == 2 then version_line else [])
+unfolding script_text
+script_text-nil version = append-nil (if version == 2 then version_line else [])
 
 -- one more line of text
-pub script_text-more : (lines : List Line) (i : ℕ) (line : Line) → i < length lines → get_or lines i Cut ≡ line → script_text (take (i + 1) lines) ≡ script_text (take i lines) ++ (line_text line ++ 10 ∷ [])
+pub script_text-more : (version : ℕ) (lines : List Line) (i : ℕ) (line : Line) → i < length lines → get_or lines i Cut ≡ line → script_text version (take (i + 1) lines) ≡ script_text version (take i lines) ++ (line_text line ++ 10 ∷ [])
 unfolding script_text
-script_text-more lines i line h e =
-    ap script_text (take_more lines i Cut h ∙ ap (λ l. take i lines ++ l ∷ []) e)
-    ∙ flat_map-append (λ l. line_text l ++ 10 ∷ []) (take i lines) (line ∷ [])
-    ∙ ap (λ t. script_text (take i lines) ++ t) (append-nil (line_text line ++ 10 ∷ []))
+script_text-more version lines i line h e =
+    let first : List ℕ = if version == 2 then version_line else [] in
+    ap (λ l. first ++ lines_text l) (take_more lines i Cut h ∙ ap (λ l. take i lines ++ l ∷ []) e)
+    ∙ ap (λ t. first ++ t) (flat_map-append (λ l. line_text l ++ 10 ∷ []) (take i lines) (line ∷ []))
+    ∙ ap (λ t. first ++ (lines_text (take i lines) ++ t)) (append-nil (line_text line ++ 10 ∷ []))
+    ∙ sym (append_assoc first (lines_text (take i lines)) (line_text line ++ 10 ∷ []))
 
 pub lent-some : (o : Option (Bor Line)) (line : Line) → option_copied o ≡ Some line → is_some o ≡ true
 lent-some None line e = cc

@@ -4,7 +4,7 @@ use Rattle.std.proofs.lemmas.List.{take-append-drop, drop_more, get_or-take, len
 use Rattle.std.proofs.lemmas.List.Splits.{slice_split_at, slice_split_none}
 use Rattle.std.proofs.lemmas.Bool.{eq-eqb, ne_eqb}
 use Rattle.std.specs.List.{All, slice_split, onto_first}
-use Rattle.paint_script.specs.Paint.{has_paint_words}
+use Rattle.paint_script.specs.Paint.{has_paint_words, has_copy_words}
 
 -- no separator stands below i
 abbrev pub IsFreeBelow : ℕ → List ℕ → ℕ → Type 0
@@ -47,7 +47,16 @@ pub paint_words-six : (x y w h last : List ℕ) (others : List (List ℕ)) → H
 paint_words-six x y w h last others more = ap (λ ws. has_paint_words (x ∷ y ∷ w ∷ h ∷ last ∷ ws)) more.is
 
 -- a text of at least six pieces
-pub split-six : (p : ℕ → Bool) (t t1 t2 t3 t4 t5 x y w h last : List ℕ) → slice_split p t ≡ x ∷ slice_split p t1 → slice_split p t1 ≡ y ∷ slice_split p t2 → slice_split p t2 ≡ w ∷ slice_split p t3 → slice_split p t3 ≡ h ∷ slice_split p t4 → slice_split p t4 ≡ last ∷ slice_split p t5 → has_paint_words (slice_split p t) ≡ false
-split-six p t t1 t2 t3 t4 t5 x y w h last e1 e2 e3 e4 e5 =
-    let whole : slice_split p t ≡ x ∷ y ∷ w ∷ h ∷ last ∷ slice_split p t5 = e1 ∙ ap (λ r. x ∷ r) (e2 ∙ ap (λ r. y ∷ r) (e3 ∙ ap (λ r. w ∷ r) (e4 ∙ ap (λ r. h ∷ r) e5))) in
-    ap has_paint_words whole ∙ paint_words-six x y w h last (slice_split p t5) (split-first p t5)
+pub split-six : (p : ℕ → Bool) (t rest more x y w h last : List ℕ) → slice_split p t ≡ x ∷ y ∷ w ∷ h ∷ slice_split p rest → slice_split p rest ≡ last ∷ slice_split p more
+    → has_paint_words (slice_split p t) ≡ false
+split-six p t rest more x y w h last e f =
+    ap has_paint_words (e ∙ ap (λ r. x ∷ y ∷ w ∷ h ∷ r) f) ∙ paint_words-six x y w h last (slice_split p more) (split-first p more)
+
+copy_words-seven : (x y w h to_x to_y : List ℕ) (others : List (List ℕ)) → HasFirst others → has_copy_words (x ∷ y ∷ w ∷ h ∷ to_x ∷ to_y ∷ others) ≡ false
+copy_words-seven x y w h to_x to_y others more = ap (λ ws. has_copy_words (x ∷ y ∷ w ∷ h ∷ to_x ∷ to_y ∷ ws)) more.is
+
+-- a text of at least seven pieces
+pub split-seven : (p : ℕ → Bool) (t rest last more x y w h to_x to_y : List ℕ) → slice_split p t ≡ x ∷ y ∷ w ∷ h ∷ slice_split p rest → slice_split p rest ≡ to_x ∷ slice_split p last → slice_split p last ≡ to_y ∷ slice_split p more
+    → has_copy_words (slice_split p t) ≡ false
+split-seven p t rest last more x y w h to_x to_y e f g =
+    ap has_copy_words (e ∙ ap (λ r. x ∷ y ∷ w ∷ h ∷ r) (f ∙ ap (λ r. to_x ∷ r) g)) ∙ copy_words-seven x y w h to_x to_y (slice_split p more) (split-first p more)

@@ -7,8 +7,8 @@ use Rattle.std.proofs.lemmas.List.Elements.{All-push, All-head, All-tail, All-we
 use Rattle.std.specs.List.{All}
 use Rattle.recorder_model.specs.Script.{is_cut}
 use Rattle.recorder_model.specs.declared.line.Line.{Line}
-use Rattle.recorder_model.specs.declared.line.Line.TheVariants.{Fill, Blit, Cut}
-use Rattle.paint_script.specs.Spellable.{IsSpellable}
+use Rattle.recorder_model.specs.declared.line.Line.TheVariants.{Fill, Blit, Copy, Cut}
+use Rattle.paint_script.specs.Spellable.{IsSpellable, IsOfVersion}
 use Rattle.paint_script.specs.Scripts.{IsStored, line_at, lines_at}
 
 abbrev IsWithin : List Line → ℕ → Type 0
@@ -45,16 +45,18 @@ count-push : (lines : List Line) (line : Line) → is_cut line ≡ false → cou
 count-push lines line e =
     sum_by_push (λ x. cond (is_cut x) 1 0) lines line ∙ ap (λ b. count_by is_cut lines + cond b 1 0) e ∙ omega arith
 
-pub IsStored-paint : (paints : List Line) (places : List ℕ) (cut line : Line) → length places + 1 < 2 ^ 32 → IsSpellable line → is_cut line ≡ false → IsStored paints places cut → IsStored (paints ++ line ∷ []) (places ++ (length paints + 1) ∷ []) cut
-IsStored-paint paints places cut line room spelled paint s =
+pub IsStored-paint : (version : ℕ) (paints : List Line) (places : List ℕ) (cut line : Line) → length places + 1 < 2 ^ 32 → IsSpellable line → IsOfVersion version line → is_cut line ≡ false → IsStored version paints places cut → IsStored version (paints ++ line ∷ []) (places ++ (length paints + 1) ∷ []) cut
+IsStored-paint version paints places cut line room spelled fits paint s =
     let e = lines_at-paint paints line places s.within in
     let more : length (paints ++ line ∷ []) ≡ length paints + 1 = length_push paints line in
     let longer : length (places ++ (length paints + 1) ∷ []) ≡ length places + 1 = length_push places (length paints + 1) in
     let wider : All (IsWithin (paints ++ line ∷ [])) places = All-weaker (IsWithin paints) (IsWithin (paints ++ line ∷ [])) (λ place h. omega arith) places s.within in
     record {
-      lines = record {
+      is = record {
+        versioned = s.is.versioned;
         few = rw (length-map, length_push) room;
-        spellable = rw e (All-push IsSpellable (lines_at paints places) line s.lines.spellable spelled);
+        spellable = rw e (All-push IsSpellable (lines_at paints places) line s.is.spellable spelled);
+        fits = rw e (All-push (IsOfVersion version) (lines_at paints places) line s.is.fits fits);
       };
       within = All-push (IsWithin (paints ++ line ∷ [])) places (length paints + 1) wider (omega arith);
       cuts = rw (e, count-push (lines_at paints places) line paint, length_push, length_push) (omega (arith, s.cuts));
@@ -64,4 +66,5 @@ IsStored-paint paints places cut line room spelled paint s =
 pub is_cut-paint : (line : Line) → (line ≡ Cut → ⊥) → is_cut line ≡ false
 is_cut-paint (Fill r c) h = refl
 is_cut-paint (Blit r pixels) h = refl
+is_cut-paint (Copy r to_x to_y) h = refl
 is_cut-paint Cut h = absurd (h refl)

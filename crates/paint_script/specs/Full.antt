@@ -1,11 +1,11 @@
 -- Why a script isn't added to others.
-use Rattle.std.specs.Prelude.{List, Result, Ok, Err}
-use Rattle.recorder_model.specs.declared.line.Line.{Line}
+use Rattle.std.specs.Prelude.{Result, Ok, Err}
+use Rattle.paint_script.specs.Scripts.{Script}
 use Rattle.paint_script.specs.declared.scripts.AddError.{AddError}
 use Rattle.paint_script.specs.declared.scripts.AddError.TheVariants.{Full, NoMemory}
 
 -- the script that an error hands back
-abbrev pub given_back : AddError → List Line
+abbrev pub given_back : AddError → Script
 given_back (Full script) = script
 given_back (NoMemory script) = script
 

@@ -30,6 +30,11 @@ abbrev pub has_paint_words : List (List ℕ) → Bool
 has_paint_words (x ∷ y ∷ w ∷ h ∷ last ∷ []) = true
 has_paint_words _ = false
 
+-- just as many words as follow `copy`
+abbrev pub has_copy_words : List (List ℕ) → Bool
+has_copy_words (x ∷ y ∷ w ∷ h ∷ to_x ∷ to_y ∷ []) = true
+has_copy_words _ = false
+
 -- the words of what follows a command's space
 abbrev pub pieces_after : Option (Bor (List ℕ)) → List (List ℕ)
 pieces_after None = []

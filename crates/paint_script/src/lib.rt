@@ -6,6 +6,9 @@
 //! - `blit X Y W H HEX` paints `W * H` pixels in rows from the top, each as `RRGGBB`,
 //! - `cut` asks for a picture.
 //!
+//! A file whose first line is `paint 2` is of version 2. Its script begins with the second line, and may have one more kind of
+//! line: `copy X Y W H DX DY` copies what the rectangle at X, Y shows to the one of the same sides at DX, DY.
+//!
 //! One space parts the words. Numbers are decimal, without leading zeros, and at most 65535; sides are at least 1, and
 //! a `blit` has at most 4096 pixels. Hexadecimal digits are `0` to `9` and `a` to `f`.
 #![tactic(auto)]

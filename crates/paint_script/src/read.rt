@@ -1,7 +1,9 @@
 //! Reading a script.
-ghost use Rattle.std.specs.Prelude.{◌≡◌, ◌==◌, ◌<◌, ◌^◌, length, count_by, IfOk, IfErr};
-ghost use Rattle.recorder_model.specs.Script.{script_of};
+ghost use Rattle.std.specs.Prelude.{◌≡◌, ◌+◌, ◌==◌, ◌<◌, ◌≤◌, ◌^◌, length, count_by, IfOk, IfErr};
+ghost use Rattle.std.specs.List.{slice_split};
+ghost use Rattle.recorder_model.specs.Script.{script_of, pieces_script, version_of};
 ghost use Rattle.paint_script.specs.Refusals.{IsRefusal};
+ghost use Rattle.paint_script.specs.Spellable.{IsVersion};
 
 use crate::line::{LineError, read_line};
 use crate::script::Script;
@@ -33,8 +35,8 @@ impl From<NoMemory> for ScriptError {
     }
 }
 
-// The bytes of the shortest line that paints, `fill 0 0 1 1 000000` with its line feed.
-const SHORTEST_PAINT: usize = 20;
+// The bytes of the shortest line that paints, `copy 0 0 1 1 0 0` with its line feed.
+const SHORTEST_PAINT: usize = 17;
 
 fn line_feeds(bytes: &[u8]) -> usize
     ensures { result ≡ count_by (λ c. c == 10) bytes.now }
@@ -42,27 +44,42 @@ fn line_feeds(bytes: &[u8]) -> usize
     bytes.iter().filter(|byte| **byte == b'\n').count()
 }
 
-/// Reads a script.
+// The version of a file, and what follows its first line where that says the version.
+fn opening(bytes: &[u8]) -> (u32, &[u8])
+    ensures version { result.0 ≡ version_of bytes.now }
+    ensures known { IsVersion result.0 }
+    ensures rest { script_of bytes.now ≡ pieces_script result.0 result.0 (slice_split (λ c. c == 10) result.1.now) }
+    ensures shorter { length result.1.now + result.0 ≤ length bytes.now + 1 }
+{
+    match bytes.strip_prefix(b"paint 2\n".as_slice()) {
+        Some(rest) => (2, rest),
+        None => (1, bytes),
+    }
+}
+
+/// Reads a script of either version.
 ///
 /// `BadLine` is the first bad line, with the first cause that applies to it. The script takes at most four times the
 /// memory of its text.
 pub fn read_script(alloc: Global, bytes: &[u8]) -> Result<Script, ScriptError>
     requires { length bytes.now < 2 ^ 32 }
-    ensures read { IfOk result (λ lines. script_of bytes.now ≡ Ok lines) }
+    ensures version { IfOk result (λ script. script.version ≡ version_of bytes.now) }
+    ensures read { IfOk result (λ script. script_of bytes.now ≡ Ok script.lines) }
     ensures refused { IfErr result (IsRefusal (script_of bytes.now)) }
 {
-    let lines = line_feeds(bytes);
-    let paints = lines.min(bytes.len() / SHORTEST_PAINT);
-    let mut script = Script::with_capacity(alloc, lines, paints)?;
-    let mut rest = bytes;
+    let (version, mut rest) = opening(bytes);
+    let lines = line_feeds(rest);
+    let paints = lines.min(rest.len() / SHORTEST_PAINT);
+    let mut script = Script::with_capacity(alloc, version, lines, paints)?;
     while let Some((text, next)) = split_once(rest, b'\n') {
-        match read_line(alloc, text) {
+        match read_line(alloc, version, text) {
             Ok(line) => {
                 script.add(line)?;
                 rest = next;
             }
             Err(LineError::Bad(cause)) => {
-                let line = script.lines() + 1;
+                // a file of version 2 has a line before the script's first one
+                let line = script.lines() + version;
                 return Err(ScriptError::BadLine { line, cause });
             }
             Err(LineError::NoMemory) => return Err(ScriptError::NoMemory),
@@ -71,7 +88,7 @@ pub fn read_script(alloc: Global, bytes: &[u8]) -> Result<Script, ScriptError>
     if rest.is_empty() {
         Ok(script)
     } else {
-        let line = script.lines() + 1;
+        let line = script.lines() + version;
         let cause = Cause::NoLineFeed;
         Err(ScriptError::BadLine { line, cause })
     }

@@ -1,8 +1,8 @@
 //! Some scripts.
 ghost use Rattle.std.specs.Prelude.{◌≡◌, ◌≤◌, ◌∷◌, [], ◌++◌, ◌↔◌, length, IfOk, IfErr, OnOk, OnErr};
-ghost use Rattle.std.specs.Option.{option_copied};
 ghost use Rattle.std.specs.List.{slice_get};
 ghost use Rattle.paint_script.specs.Full.{IsFull, given_back};
+ghost use Rattle.paint_script.specs.Scripts.{lines_lent};
 
 use crate::script::Script;
 use h265_model::NoMemory;
@@ -36,7 +36,9 @@ impl Model for Scripts {
 
     ghost Value = { List (List Line) };
 
-    ghost view = { λ a. a.list.items };
+    ghost use Rattle.paint_script.specs.Scripts.{lines_of_each};
+
+    ghost view = { λ a. lines_of_each a.list.items };
 
     ghost invariant = { λ a. (1 ≤ length a.list.items) × (length a.list.items ≤ 64) };
 }
@@ -44,7 +46,7 @@ impl Model for Scripts {
 impl Scripts {
     /// One client's script.
     pub fn one(alloc: Global, script: Script) -> Result<Scripts, NoMemory>
-        ensures { IfOk result (λ scripts. scripts ≡ script ∷ []) }
+        ensures { IfOk result (λ scripts. scripts ≡ script.lines ∷ []) }
     {
         let mut list = Vec::new(alloc);
         list.push(script)?;
@@ -54,7 +56,7 @@ impl Scripts {
     /// Appends the script of one more client. After an error the scripts are as they were. `Full` comes exactly where
     /// there are 64.
     pub fn add(&mut self, script: Script) -> Result<(), AddError>
-        ensures added { OnOk result (self.new ≡ self.old ++ script ∷ []) }
+        ensures added { OnOk result (self.new ≡ self.old ++ script.lines ∷ []) }
         ensures unchanged { OnErr result (self.new ≡ self.old) }
         ensures handed_back { IfErr result (λ e. given_back e ≡ script) }
         ensures full { IsFull result ↔ (64 ≤ length self.old) }
@@ -70,7 +72,7 @@ impl Scripts {
 
     /// The script of a client, by its number from 0. `None` exactly past the last.
     pub fn script(&self, client: u32) -> Option<&Script>
-        ensures { option_copied result ≡ slice_get self.now client }
+        ensures { lines_lent result ≡ slice_get self.now client }
     {
         self.list.get(client as usize)
     }

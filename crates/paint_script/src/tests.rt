@@ -11,7 +11,7 @@ use std::test::Fail;
 // A text, the lines that it has or its first bad line, and the first cause that applies to that.
 type Case = (&'static str, u32, Option<Cause>);
 
-const EXAMPLES: [Case; 14] = [
+const EXAMPLES: [Case; 30] = [
     ("", 0, None),
     ("cut\n", 1, None),
     ("fill 0 0 32 32 ff8040\ncut\n", 2, None),
@@ -24,8 +24,24 @@ const EXAMPLES: [Case; 14] = [
     ("fill 0 0 1 1 FFFFFF\n", 1, Some(Cause::BadColour)),
     ("blit 0 0 2 1 ff0000\n", 1, Some(Cause::BadColour)),
     ("blit 0 0 65 64 0\n", 1, Some(Cause::TooManyPixels)),
-    ("paint 2\ncut\n", 1, Some(Cause::UnknownCommand)),
+    ("paint 3\ncut\n", 1, Some(Cause::UnknownCommand)),
     ("cut\r\n", 1, Some(Cause::UnknownCommand)),
+    ("copy 0 0 1 1 0 0\n", 1, Some(Cause::UnknownCommand)),
+    ("paint 2\ncopy 0 0 1 1 0\n", 2, Some(Cause::WordCount)),
+    ("cut\npaint 2\n", 2, Some(Cause::UnknownCommand)),
+    ("paint 2\npaint 2\n", 2, Some(Cause::UnknownCommand)),
+    ("paint 2", 1, Some(Cause::NoLineFeed)),
+    ("paint 2\n", 0, None),
+    ("paint 2\ncut\ncopy 0 0 1 1 65535 65535\n", 2, None),
+    ("paint 2\ncut\ncopy 1 2 3 4 5 6", 3, Some(Cause::NoLineFeed)),
+    ("paint 2\ncopy 1 2 3 4 5 6 7\n", 2, Some(Cause::WordCount)),
+    ("paint 2\ncopy\n", 2, Some(Cause::WordCount)),
+    ("paint 2\ncopy 1 2 0 4 5 65536\n", 2, Some(Cause::BadNumber)),
+    ("paint 2\ncopy 1 2 0 4 05 6\n", 2, Some(Cause::BadNumber)),
+    ("paint 2\ncopy 1 2 0 4 5 6\n", 2, Some(Cause::ZeroSize)),
+    ("paint 2\ncopy 1 2 3 0 5 6\n", 2, Some(Cause::ZeroSize)),
+    ("paint 2\r\ncut\n", 1, Some(Cause::UnknownCommand)),
+    ("\npaint 2\n", 1, Some(Cause::UnknownCommand)),
 ];
 
 // Scripts with a byte or two changed, added or taken away. An independent model gave the answers.
@@ -345,6 +361,34 @@ fn keeps_lines(rt: HostRuntime) -> Result<(), Fail> {
         text.as_slice() == b"cut\nfill 1 2 2 1 80810a\nblit 1 2 2 1 00000080810a\ncut\n".as_slice()
     );
     each_script_is_read_back();
+    Ok(())
+}
+
+#[test]
+fn keeps_versions(rt: HostRuntime) -> Result<(), Fail> {
+    let alloc = rt.alloc();
+    let rect = Rect {
+        x: 1,
+        y: 2,
+        w: 3,
+        h: 4,
+    };
+    let (to_x, to_y) = (0, 65_535);
+    let mut script = Script::empty_of(alloc, 2);
+    script.add(Line::Copy { rect, to_x, to_y })?;
+    script.add(Line::Cut)?;
+    assert_eq!(rt;
+        (script.version(), script.lines(), script.cuts()),
+        (2, 2, 1)
+    );
+    let text = write_script(alloc, &script)?;
+    assert!(rt; text.as_slice() == b"paint 2\ncopy 1 2 3 4 0 65535\ncut\n".as_slice());
+    assert_eq!(rt; read_script(alloc, &text)?.version(), 2);
+    assert_eq!(rt; read_script(alloc, b"cut\n")?.version(), 1);
+    assert_eq!(rt; Script::empty(alloc).version(), 1);
+    assert_eq!(rt; Script::empty_of(alloc, 1).version(), 1);
+    let text = write_script(alloc, &Script::empty_of(alloc, 2))?;
+    assert!(rt; text.as_slice() == b"paint 2\n".as_slice());
     Ok(())
 }
 

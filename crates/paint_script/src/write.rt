@@ -1,7 +1,8 @@
 //! Writing a script.
-ghost use Rattle.std.specs.Prelude.{◌≡◌, ◌<◌, ◌≤◌, ◌∷◌, [], ◌++◌, flat_map, IfOk, OnOk};
+ghost use Rattle.std.specs.Prelude.{◌≡◌, ◌<◌, ◌≤◌, ◌∷◌, [], ◌++◌, ◌==◌, flat_map, IfOk, OnOk, if◌then◌else◌};
 ghost use Rattle.recorder_model.specs.Script as grammar;
 ghost use Rattle.paint_script.specs.Spellable.{IsSpellable, IsSpellableRect};
+ghost use Rattle.paint_script.specs.Laws.{IsReadAs};
 
 use crate::script::Script;
 use h265_model::{NoMemory, Rect, Rgb};
@@ -98,6 +99,12 @@ fn write_words(text: &mut Vec<u8>, line: &Line) -> Result<(), NoMemory>
             text.push(b' ')?;
             write_pixels(text, pixels.as_slice())
         }
+        Line::Copy { rect, to_x, to_y } => {
+            text.extend_from_slice(b"copy")?;
+            write_rect(text, *rect)?;
+            write_number(text, *to_x)?;
+            write_number(text, *to_y)
+        }
         Line::Cut => {
             text.extend_from_slice(b"cut")?;
             Ok(())
@@ -115,12 +122,20 @@ fn write_line(text: &mut Vec<u8>, line: &Line) -> Result<(), NoMemory>
     Ok(())
 }
 
-/// Writes the one spelling of a script. Reading it gives the script back.
+// The line before a script of a version.
+fn first_line<'a>(version: u32) -> &'a [u8]
+    ensures { result.now ≡ (if version == 2 then grammar.version_line else []) }
+{
+    if version == 2 { b"paint 2\n" } else { b"" }
+}
+
+/// Writes the one spelling of a script. Reading it gives the script back, its version too.
 pub fn write_script(alloc: Global, script: &Script) -> Result<Vec<u8>, NoMemory>
-    ensures written { IfOk result (λ text. text.items ≡ grammar.script_text script.now) }
-    ensures read_back { IfOk result (λ text. grammar.script_of text.items ≡ Ok script.now) }
+    ensures written { IfOk result (λ text. text.items ≡ grammar.script_text script.now.version script.now.lines) }
+    ensures read_back { IfOk result (λ text. IsReadAs text.items script.now.version script.now.lines) }
 {
     let mut text = Vec::new(alloc);
+    text.extend_from_slice(first_line(script.version()))?;
     for index in 0..script.lines() {
         let line = script.line(index).unwrap();
         write_line(&mut text, line)?;

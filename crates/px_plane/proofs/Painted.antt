@@ -63,6 +63,27 @@ nothing_painted p r ink none = record {
 
 -- ---- colours
 
+-- the sample of a place of a desktop with these colours
+abbrev pub sample_in : Size → (ℕ → ℕ → Rgb) → Picture
+sample_in size shown c x y = cond (nat_lt x size.w && nat_lt y size.h) (component c (shown x y)) 0
+
+-- a picture that shows some colours has their samples
+pub colours_at : (p : Planes) (before : ℕ → ℕ → Rgb) → ShowsColours p before → (c x y : ℕ) → c < 3 → x < coded p.size.w → y < coded p.size.h → picture_of p c x y ≡ sample_in p.size before c x y
+colours_at p before shown c x y h hx hy =
+    (stores_from_planes p (coded_picture p.size (place_values p.size.w p.size.h before)) shown.stored).each c x y h hx hy ∙ coded_at p.size before c x y
+
+-- a picture with the samples of some colours shows these
+pub colours_show : (old new : Planes) (after : ℕ → ℕ → Rgb) → new.size ≡ old.size → IsPicture new
+    → ((c x y : ℕ) → c < 3 → x < coded old.size.w → y < coded old.size.h → picture_of new c x y ≡ sample_in old.size after c x y)
+    → ShowsColours new after
+colours_show old new after same is each = record {
+  stored = planes_from_stores new (coded_picture new.size (place_values new.size.w new.size.h after)) is (record {
+    each = λ c x y h hx hy.
+        each c x y h (rw (← same) hx) (rw (← same) hy)
+        ∙ sym (ap (λ (size : Size). coded_picture size (place_values size.w size.h after) c x y) same ∙ coded_at old.size after c x y);
+  });
+}
+
 inked_is : (within paint : Bool) (c : ℕ) (ink before : Rgb)
     → cond (within && paint) (component c ink) (cond within (component c before) 0) ≡ cond within (component c (cond paint ink before)) 0
 inked_is true true c ink before = refl

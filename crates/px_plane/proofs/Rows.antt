@@ -24,16 +24,16 @@ rows_apart stride x y j in_row less =
     let h : (y + 1) * stride ≤ j * stride = mul-le (y + 1) stride j stride (omega arith) (omega arith) in omega arith
 
 -- the row j adds only its own places between the sides
-abbrev Other : ℕ → ℕ → ℕ → ℕ → ℕ → Type 0
+abbrev pub Other : ℕ → ℕ → ℕ → ℕ → ℕ → Type 0
 Other left right j x y = (x < left) ⊎ ((right ≤ x) ⊎ ((y < j) ⊎ (j < y)))
 
-between_other : (left right top j x y : ℕ) → Other left right j x y → is_between left right top (j + 1) x y ≡ is_between left right top j x y
+pub between_other : (left right top j x y : ℕ) → Other left right j x y → is_between left right top (j + 1) x y ≡ is_between left right top j x y
 between_other left right top j x y (inl h) = grind (arith, nat_tests)
 between_other left right top j x y (inr (inl h)) = grind (arith, nat_tests)
 between_other left right top j x y (inr (inr (inl h))) = grind (arith, nat_tests)
 between_other left right top j x y (inr (inr (inr h))) = grind (arith, nat_tests)
 
-between_row : (left right top j x : ℕ) → left ≤ x → x < right → top ≤ j → is_between left right top (j + 1) x j ≡ true
+pub between_row : (left right top j x : ℕ) → left ≤ x → x < right → top ≤ j → is_between left right top (j + 1) x j ≡ true
 between_row left right top j x a b c = grind (arith, nat_tests)
 
 -- the plane with these values in the row j between the sides
@@ -41,7 +41,7 @@ abbrev written : List ℕ → ℕ → ℕ → ℕ → ℕ → List ℕ → List 
 written now stride left right j values = put_mid (j * stride + left) (right - left) now values
 
 -- the place is before or behind what was written
-abbrev Apart : ℕ → ℕ → ℕ → ℕ → ℕ → ℕ → Type 0
+abbrev pub Apart : ℕ → ℕ → ℕ → ℕ → ℕ → ℕ → Type 0
 Apart stride left right j x y = (y * stride + x < j * stride + left) ⊎ (j * stride + left + (right - left) ≤ y * stride + x)
 
 place_in_row : (stride left right j x y : ℕ) → left ≤ right → y ≡ j → (x < left) ⊎ (right ≤ x) → Apart stride left right j x y
@@ -54,7 +54,7 @@ place_in_other stride left right j x y across wide in_row (inl less) =
 place_in_other stride left right j x y across wide in_row (inr more) =
     let h : (j + 1) * stride ≤ y * stride = mul-le (j + 1) stride y stride (omega arith) (omega arith) in inr (omega arith)
 
-place_other : (stride left right j x y : ℕ) → left ≤ right → right ≤ stride → x < stride → Other left right j x y → Apart stride left right j x y
+pub place_other : (stride left right j x y : ℕ) → left ≤ right → right ≤ stride → x < stride → Other left right j x y → Apart stride left right j x y
 place_other stride left right j x y across wide in_row (inr (inr h)) = place_in_other stride left right j x y across wide in_row h
 place_other stride left right j x y across wide in_row (inl h) =
     elim (cases_order y j) [ inl same ↦ place_in_row stride left right j x y across same (inl h) | inr k ↦ place_in_other stride left right j x y across wide in_row k ]
@@ -72,7 +72,7 @@ written_row now stride left right j values x tall wide long a b =
     get_or-put_mid_in now values (j * stride + left) (right - left) (j * stride + x) (x - left) (omega arith) (omega arith) (omega arith)
 
 -- the place is in the row between the sides, or other
-which : (left right j x y : ℕ) → (y ≡ j) × ((left ≤ x) × (x < right)) ⊎ Other left right j x y
+pub which : (left right j x y : ℕ) → (y ≡ j) × ((left ≤ x) × (x < right)) ⊎ Other left right j x y
 which left right j x y =
     elim (cases_order y j) [
       | inr (inl less) ↦ inr (inr (inr (inl less)))

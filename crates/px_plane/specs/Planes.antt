@@ -3,7 +3,7 @@ use Rattle.std.specs.Prelude.{◌≡◌, ◌<◌, length, ℕ, zero, suc, ◌+�
 use Rattle.h265_model.specs.Plain.{Size, Picture, coded, place_values}
 use Rattle.h265_model.specs.Settings.{is_size}
 use Rattle.h265_model.specs.Raster as rasters
-use Rattle.h265_model.specs.Raster.{Raster, component, coded_picture, planes, paints}
+use Rattle.h265_model.specs.Raster.{Raster, component, coded_picture, planes, paints, copies, source_x, source_y}
 use Rattle.h265_model.specs.declared.rect.Rect.{Rect}
 use Rattle.h265_model.specs.declared.rgb.Rgb.{Rgb}
 
@@ -71,6 +71,19 @@ blitted p r pixels c x y = if covers p.size r x y then component c (pixel_at r p
 -- the colour of each place after a rectangle is painted, in it by this function
 abbrev pub repainted : Rect → (ℕ → ℕ → Rgb) → (ℕ → ℕ → Rgb) → ℕ → ℕ → Rgb
 repainted r ink before x y = if paints r x y then ink x y else before x y
+
+-- a copy of the rectangle to a place paints this place of the desktop
+abbrev pub copies_to : Size → Rect → ℕ → ℕ → ℕ → ℕ → Bool
+copies_to size r to_x to_y x y = nat_lt x size.w && nat_lt y size.h && copies size r to_x to_y x y
+
+-- the samples after a rectangle is copied to a place
+abbrev pub copied : Planes → Rect → ℕ → ℕ → Picture
+copied p r to_x to_y c x y =
+    if copies_to p.size r to_x to_y x y then picture_of p c (source_x r to_x x) (source_y r to_y y) else picture_of p c x y
+
+-- the colour of each place after a rectangle is copied to a place
+abbrev pub recopied : Size → Rect → ℕ → ℕ → (ℕ → ℕ → Rgb) → ℕ → ℕ → Rgb
+recopied size r to_x to_y before x y = if copies size r to_x to_y x y then before (source_x r to_x x) (source_y r to_y y) else before x y
 
 -- the part of a rectangle that lies in the desktop
 abbrev pub clipped : Size → Rect → Rect

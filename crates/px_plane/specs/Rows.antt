@@ -3,7 +3,7 @@ use Rattle.std.specs.Prelude.{◌≡◌, ◌<◌, ◌≤◌, ℕ, ◌+◌, ◌*�
 use Rattle.h265_model.specs.Plain.{Size, Picture, coded}
 use Rattle.h265_model.specs.declared.rect.Rect.{Rect}
 use Rattle.px_plane.specs.declared.plane.Sides.{Sides}
-use Rattle.px_plane.specs.Planes.{Planes, IsPicture, picture_of, covers}
+use Rattle.px_plane.specs.Planes.{Planes, IsPicture, picture_of, covers, copies_to}
 
 -- the place is in the rectangle between these sides
 abbrev pub is_between : ℕ → ℕ → ℕ → ℕ → ℕ → ℕ → Bool
@@ -43,6 +43,19 @@ pub record IsPartOf (size : Size) (r : Rect) (part : Sides) : Type 0 where
   pub within : IsWithin size part
   pub placed : IsPlaced r part
   pub covered : (x y : ℕ) → covers size r x y ≡ is_in part x y
+
+-- the sample of a place as far from another one as this place is from the part's first one
+abbrev pub sample_from : List ℕ → ℕ → Sides → ℕ → ℕ → ℕ → ℕ → ℕ
+sample_from plane stride part from_x from_y x y = slice_index plane ((from_y + (y - part.top)) * stride + (from_x + (x - part.left)))
+
+-- the part is where a copy of the rectangle to a place paints the desktop, and its sources lie in the coded picture
+pub record IsCopyOf (size : Size) (r : Rect) (to_x to_y : ℕ) (part : Sides) : Type 0 where
+  pub within : IsWithin size part
+  pub left : part.left ≡ to_x
+  pub top : part.top ≡ to_y
+  pub source_wide : r.x + (part.right - part.left) ≤ coded size.w
+  pub source_tall : r.y + (part.bottom - part.top) ≤ coded size.h
+  pub covered : (x y : ℕ) → copies_to size r to_x to_y x y ≡ is_in part x y
 
 -- a picture within its limits, after new samples were put into a part
 pub record IsPutInto (old new : Planes) (part : Sides) (f : Picture) : Type 0 where

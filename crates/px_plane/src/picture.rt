@@ -1,18 +1,18 @@
 //! Pictures of three planes.
-ghost use Rattle.std.specs.Prelude.{◌≡◌, ℕ, ◌+◌, ◌*◌, ◌<◌, ◌≤◌, ◌↔◌, map, length, IfOk, IfSome, IsNone, IsTrue, false};
+ghost use Rattle.std.specs.Prelude.{◌≡◌, ℕ, ◌+◌, ◌-◌, ◌*◌, ◌<◌, ◌≤◌, ◌↔◌, min, map, length, IfOk, IfSome, IsNone, IsTrue, false};
 ghost use Rattle.h265_model.specs.Plain.{coded, ctus, below};
 ghost use Rattle.h265_model.specs.Settings.{is_size};
-ghost use Rattle.h265_model.specs.Raster.{Raster, black_raster, component, coded_picture};
+ghost use Rattle.h265_model.specs.Raster.{Raster, black_raster, component, coded_picture, source_x, source_y};
 ghost use Rattle.h265_model.specs.declared.rgb.Rgb.{Rgb};
 ghost use Rattle.h265_model.specs.Tiles.{tile_count, job_for};
-ghost use Rattle.px_plane.specs.Planes.{black, picture_of, plane_of, covers, filled, blitted, pixel_at, IsPicture, Stores, Shows, ShowsColours, repainted};
+ghost use Rattle.px_plane.specs.Planes.{black, picture_of, plane_of, covers, filled, blitted, copies_to, copied, pixel_at, IsPicture, Stores, Shows, ShowsColours, repainted, recopied};
 ghost use Rattle.px_plane.specs.Blocks.{same_places, compared, IsSameBlock, IsRowPart};
 ghost use Rattle.px_plane.specs.Tiles.{laid, IsJobOf, DiffersOnlyIn, IsTilePart, IsTileLaid};
-ghost use Rattle.px_plane.specs.Rows.{IsWithin, IsPartOf, IsPutInto, sample_at};
+ghost use Rattle.px_plane.specs.Rows.{IsWithin, IsPartOf, IsCopyOf, IsPutInto, sample_at};
 
 use crate::clip::Clip;
 use crate::compare::{RowPart, equal_front};
-use crate::plane::{Sides, blit_plane, fill_plane, lay_plane};
+use crate::plane::{Sides, blit_plane, copy_plane, fill_plane, lay_plane};
 use crate::{Job, Rect, Rgb, Size, Steps};
 use h265_model::NoMemory;
 use std::alloc::Global;
@@ -49,6 +49,13 @@ fn coded_side(side: u32) -> u32
     ensures bound { result ≤ 4096 }
 {
     (side + 7) / 8 * 8
+}
+
+// How many of `n` places along a side of `end` are copied, from the place `from` to the place `to`.
+fn length_copied(n: u32, from: u32, to: u32, end: u32) -> u32
+    ensures { result ≡ min n (min (end - to) (end - from)) }
+{
+    n.min(end.saturating_sub(to)).min(end.saturating_sub(from))
 }
 
 impl Picture {
@@ -204,6 +211,52 @@ impl Picture {
     {
         if let Some(part) = self.part(rect) {
             self.blit_part(part, rect, pixels);
+        }
+    }
+
+    // The part of the picture that a copy of a rectangle to a place paints.
+    fn part_copied(&self, rect: Rect, to_x: u32, to_y: u32) -> Option<Sides>
+        ensures part { IfSome result (IsCopyOf self.now.size rect to_x to_y) }
+        ensures nothing { IsNone result → (x y : ℕ) → copies_to self.now.size rect to_x to_y x y ≡ false }
+        ensures whole { IsPicture self.now }
+    {
+        let width = length_copied(rect.w, rect.x, to_x, self.w);
+        let height = length_copied(rect.h, rect.y, to_y, self.h);
+        if width == 0 || height == 0 {
+            return None;
+        }
+        Some(Sides::of(Rect {
+            x: to_x,
+            y: to_y,
+            w: width,
+            h: height,
+        }))
+    }
+
+    // Copies to a part what the picture has from (x, y) on.
+    fn copy_part(&mut self, part: Sides, x: usize, y: usize)
+        requires part { IsWithin self.old.size part }
+        requires wide { x + (part.right - part.left) ≤ coded self.old.size.w }
+        requires tall { y + (part.bottom - part.top) ≤ coded self.old.size.h }
+        ensures { IsPutInto self.old self.new part (λ c i j. picture_of self.old c (x + (i - part.left)) (y + (j - part.top))) }
+    {
+        let stride = coded_side(self.w) as usize;
+        copy_plane(&mut self.g, stride, part, x, y);
+        copy_plane(&mut self.b, stride, part, x, y);
+        copy_plane(&mut self.r, stride, part, x, y);
+    }
+
+    /// Copies a rectangle to the one of the same sides at `to_x`, `to_y`.
+    ///
+    /// All of it is read before any place is painted. A place of the target is painted where it lies in the desktop and its
+    /// source does too.
+    pub fn copy(&mut self, rect: Rect, to_x: u32, to_y: u32)
+        ensures size { self.new.size ≡ self.old.size }
+        ensures painted { Stores self.new (copied self.old rect to_x to_y) }
+        ensures shows { (before : ℕ → ℕ → Rgb) → ShowsColours self.old before → ShowsColours self.new (recopied self.old.size rect to_x to_y before) }
+    {
+        if let Some(part) = self.part_copied(rect, to_x, to_y) {
+            self.copy_part(part, rect.x as usize, rect.y as usize);
         }
     }
 

@@ -3,7 +3,7 @@ ghost use Rattle.std.specs.Prelude.{◌≡◌, ℕ, ◌+◌, ◌*◌, ◌-◌, �
 ghost use Rattle.h265_model.specs.Raster.{black};
 ghost use Rattle.h265_model.specs.Raster.{component};
 ghost use Rattle.px_plane.specs.Planes.{pixel_at};
-ghost use Rattle.px_plane.specs.Rows.{IsPut, IsPlaced, sample_at};
+ghost use Rattle.px_plane.specs.Rows.{IsPut, IsPlaced, sample_at, sample_from};
 
 use crate::{Rect, Rgb};
 
@@ -136,5 +136,74 @@ pub(crate) fn lay_plane(plane: &mut [u8], stride: usize, part: Sides, samples: &
         let at = y * stride;
         let from = number * 1024 + (y - top) * 32;
         plane[at + left..at + right].copy_from_slice(&samples[from..from + (right - left)]);
+    }
+}
+
+// Copies rows from below the part's rows or from beside them, from the top.
+fn copy_from_below(plane: &mut [u8], stride: usize, part: Sides, from_x: usize, from_y: usize)
+    requires across { part.left ≤ part.right }
+    requires wide { part.right ≤ stride }
+    requires down { part.top ≤ part.bottom }
+    requires tall { part.bottom * stride ≤ length plane.old }
+    requires some { 1 ≤ stride }
+    requires source_wide { from_x + (part.right - part.left) ≤ stride }
+    requires source_tall { (from_y + (part.bottom - part.top)) * stride ≤ length plane.old }
+    requires below { part.top ≤ from_y }
+    ensures { IsPut plane.old plane.new stride part (sample_from plane.old stride part from_x from_y) }
+{
+    let Sides {
+        left,
+        right,
+        top,
+        bottom,
+    } = part;
+    for y in top..bottom {
+        let at = y * stride + left;
+        let from = (from_y + (y - top)) * stride + from_x;
+        plane.copy_within(from..from + (right - left), at);
+    }
+}
+
+// Copies rows from above the part's rows, from the bottom.
+fn copy_from_above(plane: &mut [u8], stride: usize, part: Sides, from_x: usize, from_y: usize)
+    requires across { part.left ≤ part.right }
+    requires wide { part.right ≤ stride }
+    requires down { part.top ≤ part.bottom }
+    requires tall { part.bottom * stride ≤ length plane.old }
+    requires some { 1 ≤ stride }
+    requires source_wide { from_x + (part.right - part.left) ≤ stride }
+    requires source_tall { (from_y + (part.bottom - part.top)) * stride ≤ length plane.old }
+    requires above { from_y < part.top }
+    ensures { IsPut plane.old plane.new stride part (sample_from plane.old stride part from_x from_y) }
+{
+    let Sides {
+        left,
+        right,
+        top,
+        bottom,
+    } = part;
+    for done in 0..bottom - top {
+        let row = bottom - top - 1 - done;
+        let at = (top + row) * stride + left;
+        let from = (from_y + row) * stride + from_x;
+        plane.copy_within(from..from + (right - left), at);
+    }
+}
+
+/// Copies to a part the samples of as many places from another one on, as if all of them were read first.
+pub(crate) fn copy_plane(plane: &mut [u8], stride: usize, part: Sides, from_x: usize, from_y: usize)
+    requires across { part.left ≤ part.right }
+    requires wide { part.right ≤ stride }
+    requires down { part.top ≤ part.bottom }
+    requires tall { part.bottom * stride ≤ length plane.old }
+    requires some { 1 ≤ stride }
+    requires source_wide { from_x + (part.right - part.left) ≤ stride }
+    requires source_tall { (from_y + (part.bottom - part.top)) * stride ≤ length plane.old }
+    ensures { IsPut plane.old plane.new stride part (sample_from plane.old stride part from_x from_y) }
+{
+    if part.top <= from_y {
+        copy_from_below(plane, stride, part, from_x, from_y);
+    } else {
+        copy_from_above(plane, stride, part, from_x, from_y);
     }
 }

@@ -2,7 +2,7 @@
 mod many;
 
 ghost use Rattle.std.specs.Prelude.{◌≡◌, ◌≤◌, ◌<◌, length, IfOk};
-ghost use Rattle.paint_script.specs.Spellable.{IsSpellable, IsSpellableRect};
+ghost use Rattle.paint_script.specs.Spellable.{IsSpellable, IsOfVersion, IsSpellableRect};
 ghost use Rattle.desk_state.specs.Standing.{most_entries};
 
 use crate::{Entry, NoMemory, RecordEnd, Recording, Session, play_all, record_all};
@@ -105,7 +105,8 @@ impl Gate for UntilPlayed {
 
 fn fill(rect: Rect, colour: Rgb) -> Line
     requires { IsSpellableRect rect }
-    ensures { IsSpellable result }
+    ensures spellable { IsSpellable result }
+    ensures version { IsOfVersion 1 result }
 {
     Line::Fill { rect, colour }
 }
@@ -113,7 +114,7 @@ fn fill(rect: Rect, colour: Rgb) -> Line
 // One paint and one cut.
 fn script(alloc: Global, rect: Rect, colour: Rgb) -> Result<Script, NoMemory>
     requires { IsSpellableRect rect }
-    ensures { IfOk result (λ script. length script ≡ 2) }
+    ensures { IfOk result (λ script. length script.lines ≡ 2) }
 {
     let mut script = Script::empty(alloc);
     script.add(fill(rect, colour))?;

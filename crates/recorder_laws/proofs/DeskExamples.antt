@@ -3,8 +3,8 @@ use Rattle.std.specs.Prelude.{◌≡◌, ℕ, false, List, [], ◌∷◌, ◌++�
 use Rattle.std.specs.Fmt.{digits}
 use Rattle.h265_model.specs.Plain.{below}
 use Rattle.recorder_model.specs.declared.line.Line.{Line}
-use Rattle.recorder_model.specs.declared.line.Line.TheVariants.{Fill, Blit, Cut}
-use Rattle.recorder_model.specs.Script.{script_of, pieces_script, line_of, colours, number_up_to}
+use Rattle.recorder_model.specs.declared.line.Line.TheVariants.{Fill, Blit, Copy, Cut}
+use Rattle.recorder_model.specs.Script.{script_of, has_version_line, pieces_script, line_of, colours, number_up_to}
 use Rattle.recorder_model.specs.Words.{Serial, Demo, row_of}
 use Rattle.recorder_model.specs.Report.{report_text}
 use Rattle.recorder_model.specs.Desk.{touched_by}
@@ -97,9 +97,44 @@ script = Fill (record { x = 0; y = 0; w = 1; h = 1 }) (record { r = 10; g = 11; 
     ∷ Blit (record { x = 1; y = 0; w = 1; h = 2 }) (record { r = 1; g = 2; b = 3 } ∷ record { r = 4; g = 5; b = 6 } ∷ []) ∷ Cut ∷ []
 
 accepted : scripts_of (text ∷ []) ≡ Ok (script ∷ [])
-unfolding scripts_after script_of pieces_script line_of colours number_up_to
+unfolding scripts_after script_of has_version_line pieces_script line_of colours number_up_to
 accepted = refl
 
 shown : pictures (record { w = 2; h = 1 }) (script ∷ []) (own_order (script ∷ [])) ≡ (record { r = 10; g = 11; b = 12 } ∷ record { r = 0; g = 0; b = 0 } ∷ []) ∷ (record { r = 10; g = 11; b = 12 } ∷ record { r = 1; g = 2; b = 3 } ∷ []) ∷ []
 unfolding raster colour lines_of rasters_after
 shown = refl
+
+-- ---- copies
+
+-- a copy over its own source: all of it is read first
+abbrev overlapping : List Line
+overlapping = Fill (record { x = 0; y = 0; w = 1; h = 1 }) (record { r = 255; g = 0; b = 0 })
+    ∷ Fill (record { x = 1; y = 0; w = 1; h = 1 }) (record { r = 0; g = 255; b = 0 }) ∷ Copy (record { x = 0; y = 0; w = 2; h = 1 }) 1 0 ∷ []
+
+abbrev laid_out : List Line
+laid_out = Fill (record { x = 0; y = 0; w = 2; h = 1 }) (record { r = 255; g = 0; b = 0 }) ∷ Fill (record { x = 2; y = 0; w = 1; h = 1 }) (record { r = 0; g = 255; b = 0 }) ∷ []
+
+read_first : raster (record { w = 8; h = 2 }) overlapping ≡ raster (record { w = 8; h = 2 }) laid_out
+unfolding raster colour
+read_first = refl
+
+-- a place whose source lies outside the desktop isn't painted
+abbrev at_the_side : List Line
+at_the_side = Fill (record { x = 31; y = 0; w = 1; h = 1 }) (record { r = 255; g = 255; b = 255 }) ∷ Copy (record { x = 31; y = 0; w = 2; h = 1 }) 0 0 ∷ []
+
+from_the_side : colour (record { w = 32; h = 32 }) at_the_side 0 0 ≡ record { r = 255; g = 255; b = 255 }
+unfolding colour
+from_the_side = refl
+
+beyond_the_side : colour (record { w = 32; h = 32 }) at_the_side 1 0 ≡ record { r = 0; g = 0; b = 0 }
+unfolding colour
+beyond_the_side = refl
+
+kept_at_the_side : colour (record { w = 32; h = 32 }) at_the_side 31 0 ≡ record { r = 255; g = 255; b = 255 }
+unfolding colour
+kept_at_the_side = refl
+
+-- it paints in the tiles of its target, wherever the sources lie
+of_the_target : touched_by (record { w = 64; h = 64 }) (Copy (record { x = 0; y = 0; w = 40; h = 40 }) 40 33 ∷ []) ≡ 3 ∷ []
+unfolding touched_by
+of_the_target = refl

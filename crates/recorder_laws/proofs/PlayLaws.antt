@@ -9,12 +9,12 @@ use Rattle.recorder_model.specs.declared.entry.Entry.TheVariants as entry
 use Rattle.recorder_model.specs.declared.line.Line.{Line}
 use Rattle.h265_model.specs.declared.rgb.Rgb.{Rgb}
 use Rattle.h265_model.specs.Raster.{black}
-use Rattle.recorder_model.specs.declared.line.Line.TheVariants.{Fill, Blit, Cut}
+use Rattle.recorder_model.specs.declared.line.Line.TheVariants.{Fill, Blit, Copy, Cut}
 use Rattle.h265_model.specs.Plain.{Size}
 use Rattle.h265_model.specs.Settings.{Settings}
 use Rattle.recorder_model.specs.Script.{is_cut}
-use Rattle.h265_model.specs.Raster.{Raster, black_raster, IsRaster, IsColour, paints as paints_place}
-use Rattle.recorder_model.specs.Painting.{HasColours, raster, colour, repainted, rasters_after, lines_of, pictures, accepted_line}
+use Rattle.h265_model.specs.Raster.{Raster, black_raster, IsRaster, IsColour, copies, source_x, source_y, paints as paints_place}
+use Rattle.recorder_model.specs.Painting.{HasColours, Shown, painted, unpainted, raster, colour, rasters_after, lines_of, pictures, accepted_line}
 use Rattle.recorder_model.specs.Histories.{own_order, cuts, paints, indexes_of, take_numbers, script_length, IsLawful}
 use Rattle.h265_model.specs.Stream.{pieces}
 use Rattle.h265_model.proofs.Squares.{length_places, all_places}
@@ -38,6 +38,9 @@ rasters_after-append size before (Fill r c ∷ xs) ys =
 rasters_after-append size before (Blit r pixels ∷ xs) ys =
     rasters_after-append size (before ++ Blit r pixels ∷ []) xs ys
     ∙ ap (λ (l : List Line). rasters_after size (before ++ Blit r pixels ∷ []) xs ++ rasters_after size l ys) (append_assoc before (Blit r pixels ∷ []) xs)
+rasters_after-append size before (Copy r to_x to_y ∷ xs) ys =
+    rasters_after-append size (before ++ Copy r to_x to_y ∷ []) xs ys
+    ∙ ap (λ (l : List Line). rasters_after size (before ++ Copy r to_x to_y ∷ []) xs ++ rasters_after size l ys) (append_assoc before (Copy r to_x to_y ∷ []) xs)
 rasters_after-append size before (Cut ∷ xs) ys =
     ap (λ (l : List Raster). raster size before ∷ l)
     (rasters_after-append size (before ++ Cut ∷ []) xs ys
@@ -131,24 +134,29 @@ one_of : (b : Bool) (c d : Rgb) → IsColour c → IsColour d → IsColour (cond
 one_of true c d p q = p
 one_of false c d p q = q
 
-repainted_coloured : (x y : ℕ) (before : Rgb) (line : Line) → IsColour before → HasColours line → IsColour (repainted x y before line)
-repainted_coloured x y before (Fill r c) p h = one_of (paints_place r x y) c before h p
-repainted_coloured x y before (Blit r pixels) p h = one_of (paints_place r x y) _ before (coloured_at pixels ((y - r.y) * r.w + (x - r.x)) h) p
-repainted_coloured x y before Cut p h = p
+-- a desktop that shows colours of three bytes
+abbrev AreColours : Shown → Type 0
+AreColours shown = (x y : ℕ) → IsColour (shown x y)
 
-fold_coloured : (x y : ℕ) (start : Rgb) (lines : List Line) → IsColour start → AllByRecursion HasColours lines → IsColour (fold (repainted x y) start lines)
-fold_coloured x y start [] p h = p
-fold_coloured x y start (line ∷ lines) p h = fold_coloured x y (repainted x y start line) lines (repainted_coloured x y start line p h.0) h.1
+painted_coloured : (size : Size) (shown : Shown) (line : Line) → AreColours shown → HasColours line → AreColours (painted size shown line)
+painted_coloured size shown (Fill r c) p h = λ x y. one_of (paints_place r x y) c (shown x y) h (p x y)
+painted_coloured size shown (Blit r pixels) p h = λ x y. one_of (paints_place r x y) _ (shown x y) (coloured_at pixels ((y - r.y) * r.w + (x - r.x)) h) (p x y)
+painted_coloured size shown (Copy r to_x to_y) p h = λ x y. one_of (copies size r to_x to_y x y) _ (shown x y) (p (source_x r to_x x) (source_y r to_y y)) (p x y)
+painted_coloured size shown Cut p h = p
 
-colour_coloured : (x y : ℕ) (lines : List Line) → AllByRecursion HasColours lines → IsColour (colour lines x y)
+fold_coloured : (size : Size) (start : Shown) (lines : List Line) → AreColours start → AllByRecursion HasColours lines → AreColours (fold (painted size) start lines)
+fold_coloured size start [] p h = p
+fold_coloured size start (line ∷ lines) p h = fold_coloured size (painted size start line) lines (painted_coloured size start line p h.0) h.1
+
+colour_coloured : (size : Size) (x y : ℕ) (lines : List Line) → AllByRecursion HasColours lines → IsColour (colour size lines x y)
 unfolding colour
-colour_coloured x y lines h = fold_coloured x y black lines (record { r = omega arith; g = omega arith; b = omega arith }) h
+colour_coloured size x y lines h = fold_coloured size unpainted lines (λ x y. record { r = omega arith; g = omega arith; b = omega arith }) h x y
 
 raster_is : (size : Size) (lines : List Line) → AllByRecursion HasColours lines → IsRaster size (raster size lines)
 unfolding raster
 raster_is size lines h = record {
-  places = length_places size.w size.h (colour lines) ∙ mul_comm size.h size.w;
-  colours = all_places IsColour size.w size.h (colour lines) (λ x y p q. colour_coloured x y lines h);
+  places = length_places size.w size.h (colour size lines) ∙ mul_comm size.h size.w;
+  colours = all_places IsColour size.w size.h (colour size lines) (λ x y p q. colour_coloured size x y lines h);
 }
 
 with_last : (before : List Line) (line : Line) → AllByRecursion HasColours before → HasColours line → AllByRecursion HasColours (before ++ line ∷ [])
@@ -160,6 +168,7 @@ unfolding rasters_after
 rasters_are size before [] p h = tt
 rasters_are size before (Fill r c ∷ lines) p h = rasters_are size (before ++ Fill r c ∷ []) lines (with_last before (Fill r c) p h.0) h.1
 rasters_are size before (Blit r pixels ∷ lines) p h = rasters_are size (before ++ Blit r pixels ∷ []) lines (with_last before (Blit r pixels) p h.0) h.1
+rasters_are size before (Copy r to_x to_y ∷ lines) p h = rasters_are size (before ++ Copy r to_x to_y ∷ []) lines (with_last before (Copy r to_x to_y) p h.0) h.1
 rasters_are size before (Cut ∷ lines) p h = (raster_is size before p, rasters_are size (before ++ Cut ∷ []) lines (with_last before Cut p h.0) h.1)
 
 pub each_picture_is_raster : EachPictureIsRaster

@@ -49,6 +49,9 @@ pub enum Line {
     Fill { rect: Rect, colour: Rgb },
     /// Paints `rect.w * rect.h` pixels.
     Blit { rect: Rect, pixels: Pixels },
+    /// Copies what the rectangle shows to the one of the same sides at `to_x`, `to_y`. All of it is read before any place is
+    /// painted; a place whose source lies outside the desktop isn't painted.
+    Copy { rect: Rect, to_x: u32, to_y: u32 },
     /// Asks for a picture of the desktop as it is now.
     Cut,
 }

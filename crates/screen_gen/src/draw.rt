@@ -1,6 +1,6 @@
 //! Lines from a random number generator.
 ghost use Rattle.std.specs.Prelude.{◌≡◌, ◌<◌, ◌*◌, ◌≤◌, ◌%◌, IfOk, length};
-ghost use Rattle.paint_script.specs.Spellable.{IsSpellable, IsSpellableColour};
+ghost use Rattle.paint_script.specs.Spellable.{IsSpellable, IsOfVersion, IsSpellableColour};
 ghost use Rattle.screen_gen.specs.Generated.{colour_of, colours, rect_of, drawn, state_after};
 
 use h265_model::{NoMemory, Rect, Rgb};
@@ -16,6 +16,7 @@ use std::alloc::Global;
 pub fn draw_line(alloc: Global, random: &mut SplitMix64) -> Result<Line, NoMemory>
     ensures line { IfOk result (λ line. (line, random.new) ≡ drawn random.old) }
     ensures spellable { IfOk result (λ line. IsSpellable line) }
+    ensures version { IfOk result (λ line. IsOfVersion 1 line) }
 {
     let kind = random.next_word();
     let x = random.next_word();

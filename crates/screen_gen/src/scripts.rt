@@ -1,6 +1,6 @@
 //! The scripts of a number.
 ghost use Rattle.std.specs.Prelude.{◌≡◌, ◌<◌, IfOk};
-ghost use Rattle.paint_script.specs.Spellable.{IsSpellable};
+ghost use Rattle.paint_script.specs.Spellable.{IsSpellable, IsOfVersion};
 ghost use Rattle.screen_gen.specs.Generated.{is_cut, client_script, generated, IsNext};
 
 use crate::draw::draw_line;
@@ -38,7 +38,7 @@ pub fn generate(alloc: Global, number: u64) -> Result<Scripts, NoMemory>
 
 // The script of a client.
 fn client_script(alloc: Global, number: u64, client: u32) -> Result<Script, NoMemory>
-    ensures { IfOk result (λ script. script ≡ client_script number client) }
+    ensures { IfOk result (λ script. script ≡ record { version = 1; lines = client_script number client }) }
 {
     let mut random = SplitMix64::seed_from_u64(number.wrapping_add(client as u64));
     let mut script = Script::empty(alloc);
@@ -58,6 +58,7 @@ fn next_line(
 ) -> Result<Line, NoMemory>
     ensures line { IfOk result (λ line. IsNext client index random.old line random.new) }
     ensures spellable { IfOk result (λ line. IsSpellable line) }
+    ensures version { IfOk result (λ line. IsOfVersion 1 line) }
 {
     if is_cut(client, index) {
         return Ok(Line::Cut);

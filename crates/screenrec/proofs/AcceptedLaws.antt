@@ -8,6 +8,7 @@ use Rattle.std.proofs.lemmas.List.Sums.{sum_by-cons}
 use Rattle.recorder_model.specs.declared.refusal.Cause.{Cause}
 use Rattle.recorder_model.specs.declared.refusal.LimitKind.TheVariants.{Lines, Cuts}
 use Rattle.recorder_model.specs.declared.line.Line.{Line}
+use Rattle.paint_script.specs.Scripts.{Script}
 use Rattle.recorder_model.specs.Script.{script_of, is_cut}
 use Rattle.h265_model.specs.Bits.{◌>>-◌}
 use Rattle.recorder_model.specs.Files.{Files, file_at, WhereTold}
@@ -306,17 +307,17 @@ told_refused a b c names file lines cuts scripts s less lines_so cuts_so h so_fa
           (subst (λ (m : Files). Accepts file lines cuts (file_at m (name_at names file)) (Err s)) p.0 q.1),
     ))
 
-pub told_accepted : (a b c : Option Files) (names : List (Bor (List ℕ))) (file lines cuts : ℕ) (scripts : List (List Line)) (script : List Line) → file < length names →
+pub told_accepted : (a b c : Option Files) (names : List (Bor (List ℕ))) (file lines cuts : ℕ) (scripts : List (List Line)) (script : Script) → file < length names →
     lines ≡ all_lines scripts → cuts ≡ all_cuts scripts → ToldSoFar a b names file scripts →
     WhereTold b c (λ before after. (after ≡ before) × Accepts file lines cuts (file_at before (name_at names file)) (Ok script)) →
-    ToldSoFar a c names (file + 1) (scripts ++ script ∷ [])
+    ToldSoFar a c names (file + 1) (scripts ++ script.lines ∷ [])
 told_accepted a b c names file lines cuts scripts script less lines_so cuts_so so_far told =
     told_on a b c (λ before now. (now ≡ before) × (scripts_of (contents before (take file (texts names))) ≡ Ok scripts))
     (λ before after. (after ≡ before) × Accepts file lines cuts (file_at before (name_at names file)) (Ok script))
-    (λ before after. (after ≡ before) × (scripts_of (contents before (take (file + 1) (texts names))) ≡ Ok (scripts ++ script ∷ []))) so_far told
+    (λ before after. (after ≡ before) × (scripts_of (contents before (take (file + 1) (texts names))) ≡ Ok (scripts ++ script.lines ∷ []))) so_far told
     (λ x y z p q. (
       q.0 ∙ p.0,
-      more_accepted x names file lines cuts scripts script less (p.1, lines_so, cuts_so)
+      more_accepted x names file lines cuts scripts script.lines less (p.1, lines_so, cuts_so)
           (subst (λ (m : Files). Accepts file lines cuts (file_at m (name_at names file)) (Ok script)) p.0 q.1),
     ))
 
@@ -329,7 +330,7 @@ told_whole a b names file scripts all told =
     (λ x y p. (p.0, ap (λ (l : List (List ℕ)). scripts_of (contents x l)) (sym (take_all file (texts names) (omega (arith, length-texts names, all)))) ∙ p.1))
 
 -- the name is that of this number
-pub told_named : (a b : Option Files) (names : List (Bor (List ℕ))) (file lines cuts : ℕ) (name : Bor (List ℕ)) (result : Result (List Line) Status) → file < length names → name ≡ slice_index_or names file name →
+pub told_named : (a b : Option Files) (names : List (Bor (List ℕ))) (file lines cuts : ℕ) (name : Bor (List ℕ)) (result : Result Script Status) → file < length names → name ≡ slice_index_or names file name →
     WhereTold a b (λ before after. (after ≡ before) × Accepts file lines cuts (file_at before name.now) result) →
     WhereTold a b (λ before after. (after ≡ before) × Accepts file lines cuts (file_at before (name_at names file)) result)
 told_named a b names file lines cuts name result less e told =

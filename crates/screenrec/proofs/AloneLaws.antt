@@ -7,7 +7,7 @@ use Rattle.std.proofs.Math.Seq.{take-length}
 use Rattle.std.proofs.lemmas.List.{append-nil}
 use Rattle.recorder_model.specs.declared.entry.Entry.{Entry}
 use Rattle.recorder_model.specs.declared.line.Line.{Line}
-use Rattle.recorder_model.specs.declared.line.Line.TheVariants.{Fill, Blit, Cut}
+use Rattle.recorder_model.specs.declared.line.Line.TheVariants.{Fill, Blit, Copy, Cut}
 use Rattle.h265_model.specs.Plain.{Size, joined}
 use Rattle.recorder_model.specs.Words.{SerialWords}
 use Rattle.h265_model.specs.Settings.{is_size}
@@ -81,6 +81,7 @@ pub colours_of : (line : Line) → IsSpellable line → HasColours line
 colours_of (Fill r c) h = record { r = h.1.r; g = h.1.g; b = h.1.b }
 colours_of (Blit r pixels) h =
     all_by IsColour pixels (λ k d l. let c : IsSpellableColour (slice_index_or pixels k d) = h.1.colours k d l in record { r = c.r; g = c.g; b = c.b })
+colours_of (Copy r to_x to_y) h = tt
 colours_of Cut h = tt
 
 have_colours : (script : List Line) → AreSpellable script → AllByRecursion HasColours script

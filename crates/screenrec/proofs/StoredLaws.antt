@@ -6,7 +6,7 @@ use Rattle.std.specs.Prelude.{slice_index_or, IfOk}
 use Rattle.std.specs.List.{slice_get}
 use Rattle.std.specs.FinMap.{insert}
 use Rattle.recorder_model.specs.declared.line.Line.{Line}
-use Rattle.recorder_model.specs.declared.line.Line.TheVariants.{Fill, Blit, Cut}
+use Rattle.recorder_model.specs.declared.line.Line.TheVariants.{Fill, Blit, Copy, Cut}
 use Rattle.h265_model.specs.Plain.{joined}
 use Rattle.h265_model.specs.Settings.{Settings}
 use Rattle.recorder_model.specs.Script.{is_cut}
@@ -56,6 +56,7 @@ spellable_at (x ∷ lines) (suc i) line all e = spellable_at lines i line (λ k 
 pub paints : (line : Line) → (line ≡ Cut → ⊥) → is_cut line ≡ false
 paints (Fill r c) not_cut = refl
 paints (Blit r pixels) not_cut = refl
+paints (Copy r to_x to_y) not_cut = refl
 paints Cut not_cut = absurd (not_cut refl)
 
 module _ (settings : Settings) where

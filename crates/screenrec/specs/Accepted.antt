@@ -5,6 +5,7 @@ use Rattle.recorder_model.specs.declared.line.Line.{Line}
 use Rattle.recorder_model.specs.Script.{is_cut}
 use Rattle.recorder_model.specs.Files.{Rose}
 use Rattle.recorder_model.specs.Headline.{Refusal, TooLarge, BadPaint, Limit, scripts_of, scripts_after, most_lines, most_cuts}
+use Rattle.paint_script.specs.Scripts.{Script}
 use Rattle.command_line.specs.Views.{texts}
 use Rattle.screenrec.specs.declared.outcome.Status.{Status}
 use Rattle.screenrec.specs.declared.outcome.Status.TheVariants as status
@@ -23,8 +24,8 @@ abbrev pub name_at : List (Bor (List ℕ)) → ℕ → List ℕ
 name_at names file = slice_index_or (texts names) file []
 
 -- what reading a file of this number and of these bytes answers, after so many lines and cuts of the files before it
-abbrev pub Accepts : ℕ → ℕ → ℕ → List ℕ → Result (List Line) Status → Type 0
-Accepts file lines cuts bytes (Ok script) = scripts_after file lines cuts (bytes ∷ []) ≡ Ok (script ∷ [])
+abbrev pub Accepts : ℕ → ℕ → ℕ → List ℕ → Result Script Status → Type 0
+Accepts file lines cuts bytes (Ok script) = scripts_after file lines cuts (bytes ∷ []) ≡ Ok (script.lines ∷ [])
 Accepts file lines cuts bytes (Err (status.TooLarge named)) = scripts_after file lines cuts (bytes ∷ []) ≡ Err (TooLarge named)
 Accepts file lines cuts bytes (Err (status.InputFault named)) = named ≡ file
 Accepts file lines cuts bytes (Err other) = RefusesScripts (scripts_after file lines cuts (bytes ∷ [])) other

@@ -50,7 +50,7 @@ fn report_script<K: Sink>(alloc: Global, script: &Script, written: u64, report: 
     ensures later { K.faults report.old ≤ K.faults report.new }
     ensures cause { result ≡ Status.ReportFault → Rose (K.faults report.old) (K.faults report.new) }
     ensures kept { result ≡ Status.Ok → K.faults report.new ≡ K.faults report.old }
-    ensures text { WhereTold (K.text report.old) (K.text report.new) (λ was now. ReportsScript script.now written was now result) }
+    ensures text { WhereTold (K.text report.old) (K.text report.new) (λ was now. ReportsScript script.now.lines written was now result) }
     ensures beside { WhereTold (K.beside report.old) (K.beside report.new) (λ was now. now ≡ was) }
     ensures through { K.through report.new ≡ K.through report.old }
 {
@@ -72,7 +72,7 @@ fn record_script<F: Shelf, K: Sink>(
     report: &mut K,
 ) -> Outcome
     requires within { IsWithinLimits words.now.settings }
-    requires few { length script.now ≤ most_lines }
+    requires few { length script.now.lines ≤ most_lines }
     ensures status { IsAfterReading result.status }
     ensures sink { HasWriteCause (F.write_faults shelf.old) (F.write_faults shelf.new) (sink_result result.status) }
     ensures reads { F.read_faults shelf.new ≡ F.read_faults shelf.old }
@@ -80,10 +80,10 @@ fn record_script<F: Shelf, K: Sink>(
     ensures cause { result.status ≡ Status.ReportFault → Rose (K.faults report.old) (K.faults report.new) }
     ensures kept { result.status ≡ Status.Ok → K.faults report.new ≡ K.faults report.old }
     ensures files { WhereTold (F.files shelf.old) (F.files shelf.new) (λ before after.
-        LeavesScript (serial_view words.now) script.now before after result.order result.written result.status) }
+        LeavesScript (serial_view words.now) script.now.lines before after result.order result.written result.status) }
     ensures text { WhereTold (K.text report.old) (K.text report.new) (λ was now.
-        ReportsScript script.now result.written was now result.status) }
-    ensures own { IsReported result.status → result.order ≡ own_order (script.now ∷ []) }
+        ReportsScript script.now.lines result.written was now result.status) }
+    ensures own { IsReported result.status → result.order ≡ own_order (script.now.lines ∷ []) }
     ensures beside { WhereTold (K.beside report.old) (K.beside report.new) (λ was now. now ≡ was) }
     ensures through { K.through report.new ≡ K.through report.old }
 {

@@ -45,7 +45,7 @@ pub fn read_paint<F: Shelf>(alloc: Global, name: &str, shelf: &mut F) -> Result<
     ensures cause { HasInputCause (F.read_faults shelf.old) (F.read_faults shelf.new) result }
     ensures writes { F.write_faults shelf.new ≡ F.write_faults shelf.old }
     ensures status { IfErr result (IsOfTheFile 0) }
-    ensures few { IfOk result (λ script. length script ≤ most_lines) }
+    ensures few { IfOk result (λ script. length script.lines ≤ most_lines) }
     ensures files { WhereTold (F.files shelf.old) (F.files shelf.new) (λ before after.
         (after ≡ before) × Accepts 0 0 0 (file_at before name.now) result) }
 {
@@ -93,9 +93,9 @@ pub fn read_paints<F: Shelf>(
 impl Totals {
     // The totals with those of one more script.
     fn with(self, script: &Script) -> Totals
-        requires room { HasRoomFor self.lines self.cuts script.now }
-        ensures lines { result.lines ≡ self.lines + length script.now }
-        ensures cuts { result.cuts ≡ self.cuts + count_by is_cut script.now }
+        requires room { HasRoomFor self.lines self.cuts script.now.lines }
+        ensures lines { result.lines ≡ self.lines + length script.now.lines }
+        ensures cuts { result.cuts ≡ self.cuts + count_by is_cut script.now.lines }
     {
         Totals {
             lines: self.lines + script.lines(),
@@ -118,8 +118,8 @@ fn read_next<F: Shelf>(
     ensures cause { HasInputCause (F.read_faults shelf.old) (F.read_faults shelf.new) result }
     ensures writes { F.write_faults shelf.new ≡ F.write_faults shelf.old }
     ensures status { IfErr result (IsOfTheFile file) }
-    ensures room { IfOk result (HasRoomFor so_far.lines so_far.cuts) }
-    ensures spellable { IfOk result AreSpellable }
+    ensures room { IfOk result (λ script. HasRoomFor so_far.lines so_far.cuts script.lines) }
+    ensures spellable { IfOk result (λ script. AreSpellable script.lines) }
     ensures files { WhereTold (F.files shelf.old) (F.files shelf.new) (λ before after.
         (after ≡ before) × Accepts file so_far.lines so_far.cuts (file_at before (name_at names.now file)) result) }
 {
@@ -142,8 +142,8 @@ fn read_named<F: Shelf>(
     ensures cause { HasInputCause (F.read_faults shelf.old) (F.read_faults shelf.new) result }
     ensures writes { F.write_faults shelf.new ≡ F.write_faults shelf.old }
     ensures status { IfErr result (IsOfTheFile file) }
-    ensures room { IfOk result (HasRoomFor so_far.lines so_far.cuts) }
-    ensures spellable { IfOk result AreSpellable }
+    ensures room { IfOk result (λ script. HasRoomFor so_far.lines so_far.cuts script.lines) }
+    ensures spellable { IfOk result (λ script. AreSpellable script.lines) }
     ensures files { WhereTold (F.files shelf.old) (F.files shelf.new) (λ before after.
         (after ≡ before) × Accepts file so_far.lines so_far.cuts (file_at before name.now) result) }
 {
@@ -162,8 +162,8 @@ fn accept(alloc: Global, bytes: &[u8], file: u32, so_far: Totals) -> Result<Scri
     requires cuts { so_far.cuts ≤ most_cuts }
     ensures status { IfErr result (IsOfTheFile file) }
     ensures no_fault { (named : ℕ) → result ≢ Err (Status.InputFault named) }
-    ensures room { IfOk result (HasRoomFor so_far.lines so_far.cuts) }
-    ensures spellable { IfOk result AreSpellable }
+    ensures room { IfOk result (λ script. HasRoomFor so_far.lines so_far.cuts script.lines) }
+    ensures spellable { IfOk result (λ script. AreSpellable script.lines) }
     ensures scripts { Accepts file so_far.lines so_far.cuts bytes.now result }
 {
     if bytes.len() as u64 > MOST_BYTES {

@@ -4,6 +4,7 @@ ghost use Rattle.std.specs.FinMap.{insert};
 ghost use Rattle.recorder_model.specs.declared.line.Line.{Line};
 ghost use Rattle.recorder_model.specs.declared.line.Line.TheVariants as line;
 ghost use Rattle.recorder_model.specs.Files.{Files, WhereTold};
+ghost use Rattle.h265_model.specs.Settings as model;
 ghost use Rattle.recorder_model.specs.Words as table;
 ghost use Rattle.recorder_model.specs.Headline.{most_lines};
 ghost use Rattle.edges.specs.Causes.{HasWriteCause};
@@ -32,14 +33,14 @@ pub struct Ending {
 fn append_picture<F: Shelf>(stage: &mut Stage, name: &str, shelf: &mut F) -> Result<u64, WriteError>
     requires played { IsPlayed stage.old }
     requires few { stage.old.cuts < 2 ^ 32 - 1 }
-    ensures played { OnOk result ((settings : table.Settings) (done : List Line) → HasPlayed settings stage.old done → HasPlayed settings stage.new (done ++ line.Cut ∷ [])) }
+    ensures played { OnOk result ((settings : model.Settings) (done : List Line) → HasPlayed settings stage.old done → HasPlayed settings stage.new (done ++ line.Cut ∷ [])) }
     ensures cuts { OnOk result (stage.new.cuts ≡ stage.old.cuts + 1) }
     ensures cause { HasWriteCause (F.write_faults shelf.old) (F.write_faults shelf.new) result }
     ensures reads { F.read_faults shelf.new ≡ F.read_faults shelf.old }
-    ensures counted { (settings : table.Settings) (done : List Line) → HasPlayed settings stage.old done →
+    ensures counted { (settings : model.Settings) (done : List Line) → HasPlayed settings stage.old done →
         IfOk result (λ count. count ≡ length (cut_piece settings done)) }
     ensures short { IfOk result (λ count. count < 2 ^ 40) }
-    ensures files { (settings : table.Settings) (done : List Line) → HasPlayed settings stage.old done →
+    ensures files { (settings : model.Settings) (done : List Line) → HasPlayed settings stage.old done →
         WhereTold (F.files shelf.old) (F.files shelf.new) (λ before after.
         AppendsPiece name.now (cut_piece settings done) before after result) }
 {
@@ -60,14 +61,14 @@ fn play_line<F: Shelf>(
     requires played { IsPlayed stage.old }
     requires few { stage.old.cuts < 2 ^ 32 - 1 }
     requires spellable { IsSpellable line.now }
-    ensures played { OnOk result ((settings : table.Settings) (done : List Line) → HasPlayed settings stage.old done → HasPlayed settings stage.new (done ++ line.now ∷ [])) }
+    ensures played { OnOk result ((settings : model.Settings) (done : List Line) → HasPlayed settings stage.old done → HasPlayed settings stage.new (done ++ line.now ∷ [])) }
     ensures cuts { OnOk result (stage.new.cuts ≤ stage.old.cuts + 1) }
     ensures cause { HasWriteCause (F.write_faults shelf.old) (F.write_faults shelf.new) result }
     ensures reads { F.read_faults shelf.new ≡ F.read_faults shelf.old }
-    ensures counted { (settings : table.Settings) (done : List Line) → HasPlayed settings stage.old done → IfOk result (λ count.
+    ensures counted { (settings : model.Settings) (done : List Line) → HasPlayed settings stage.old done → IfOk result (λ count.
         length (stream_after settings (done ++ line.now ∷ [])) ≡ length (stream_after settings done) + count) }
     ensures short { IfOk result (λ count. count < 2 ^ 40) }
-    ensures files { (settings : table.Settings) (done : List Line) → HasPlayed settings stage.old done →
+    ensures files { (settings : model.Settings) (done : List Line) → HasPlayed settings stage.old done →
         WhereTold (F.files shelf.old) (F.files shelf.new) (λ before after. (start : Files) →
         before ≡ insert start name.now (stream_after settings done) → Continues settings name.now done line.now start after result) }
 {
@@ -80,9 +81,9 @@ fn play_line<F: Shelf>(
 
 /// The line of this number.
 pub(crate) fn line_at(script: &Script, index: u32) -> &Line
-    requires inside { index < length script.now }
-    requires spellable { AreSpellable script.now }
-    ensures line { result.now ≡ slice_index_or script.now index result.now }
+    requires inside { index < length script.now.lines }
+    requires spellable { AreSpellable script.now.lines }
+    ensures line { result.now ≡ slice_index_or script.now.lines index result.now }
     ensures spellable { IsSpellable result.now }
 {
     match script.line(index) {
@@ -99,7 +100,7 @@ fn write_pictures<F: Shelf>(
     shelf: &mut F,
     first: u64,
 ) -> Ending
-    requires few { length script.now ≤ most_lines }
+    requires few { length script.now.lines ≤ most_lines }
     requires played { HasPlayed stage.encoder.settings stage [] }
     requires first { first ≡ length (stream_after stage.encoder.settings []) }
     requires short { first < 2 ^ 40 }
@@ -107,7 +108,7 @@ fn write_pictures<F: Shelf>(
     ensures reads { F.read_faults shelf.new ≡ F.read_faults shelf.old }
     ensures files { WhereTold (F.files shelf.old) (F.files shelf.new) (λ before after. (start : Files) →
         before ≡ insert start name.now (stream_after stage.encoder.settings []) →
-        EndsIn stage.encoder.settings name.now script.now start after result.result result.written) }
+        EndsIn stage.encoder.settings name.now script.now.lines start after result.result result.written) }
 {
     let mut written = first;
     for index in 0..script.lines() {
@@ -141,11 +142,11 @@ pub fn write_stream<F: Shelf>(
     shelf: &mut F,
 ) -> Result<Ending, WriteError>
     requires effort { settings.now.effort ≤ 2 }
-    requires few { length script.now ≤ most_lines }
+    requires few { length script.now.lines ≤ most_lines }
     ensures cause { HasWriteCause (F.write_faults shelf.old) (F.write_faults shelf.new) (ending_of result) }
     ensures reads { F.read_faults shelf.new ≡ F.read_faults shelf.old }
     ensures files { WhereTold (F.files shelf.old) (F.files shelf.new) (λ before after.
-        EndsAnew (settings_view settings.now) name.now script.now before after result) }
+        EndsAnew (settings_view settings.now) name.now script.now.lines before after result) }
 {
     let Ok(start) = make_start(alloc, settings) else {
         return Err(WriteError::NoMemory);
@@ -174,7 +175,7 @@ fn make_start(alloc: Global, settings: &Settings) -> Result<Start, NoMemory>
 
 // Appends the first piece to the empty file, and then those of the pictures.
 fn write_pieces<F: Shelf>(script: &Script, start: Start, name: &str, shelf: &mut F) -> Ending
-    requires few { length script.now ≤ most_lines }
+    requires few { length script.now.lines ≤ most_lines }
     requires played { HasPlayed start.stage.encoder.settings start.stage [] }
     requires first { start.first.items ≡ stream_after start.stage.encoder.settings [] }
     requires short { length start.first.items < 2 ^ 40 }
@@ -182,7 +183,7 @@ fn write_pieces<F: Shelf>(script: &Script, start: Start, name: &str, shelf: &mut
     ensures reads { F.read_faults shelf.new ≡ F.read_faults shelf.old }
     ensures files { WhereTold (F.files shelf.old) (F.files shelf.new) (λ before after. (before_that : Files) →
         before ≡ insert before_that name.now [] →
-        EndsIn start.stage.encoder.settings name.now script.now before_that after result.result result.written) }
+        EndsIn start.stage.encoder.settings name.now script.now.lines before_that after result.result result.written) }
 {
     let Start { first, stage } = start;
     if let Err(error) = shelf.append(name, &first) {

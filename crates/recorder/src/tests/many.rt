@@ -1,6 +1,6 @@
 //! A session of eight clients, compared with a session of one client that plays their lines in the order in which they were accepted.
 ghost use Rattle.std.specs.Prelude.{◌≡◌, ◌≤◌, ◌<◌, ◌+◌, ◌∷◌, ◌++◌, ◌^◌, ◌-◌, [], length, IfOk, OnOk};
-ghost use Rattle.paint_script.specs.Spellable.{IsSpellable};
+ghost use Rattle.paint_script.specs.Spellable.{IsSpellable, IsOfVersion};
 ghost use Rattle.desk_state.specs.Standing.{most_entries};
 
 use super::mark;
@@ -26,7 +26,8 @@ const CUTS: u32 = 80;
 // Line number `index` of a client: each twentieth one is a cut.
 fn line_of(client: u32, index: u32) -> Line
     requires { (client < 8) × (index < 200) }
-    ensures { IsSpellable result }
+    ensures spellable { IsSpellable result }
+    ensures version { IsOfVersion 1 result }
 {
     if index % 20 == 19 {
         return Line::Cut;
@@ -47,7 +48,7 @@ fn line_of(client: u32, index: u32) -> Line
 
 fn script_of(alloc: Global, client: u32) -> Result<Script, NoMemory>
     requires { client < 8 }
-    ensures { IfOk result (λ script. length script ≡ 200) }
+    ensures { IfOk result (λ script. length script.lines ≡ 200) }
 {
     let mut script = Script::empty(alloc);
     for index in 0..LINES {
@@ -57,7 +58,7 @@ fn script_of(alloc: Global, client: u32) -> Result<Script, NoMemory>
 }
 
 fn add_script(scripts: &mut Scripts, script: Script) -> Result<(), NoMemory>
-    ensures { OnOk result (scripts.new ≡ scripts.old ++ script ∷ []) }
+    ensures { OnOk result (scripts.new ≡ scripts.old ++ script.lines ∷ []) }
 {
     match scripts.add(script) {
         Ok(()) => Ok(()),
@@ -82,7 +83,8 @@ fn merged(alloc: Global, order: &[Entry]) -> Result<Script, Fail> {
     let mut merged = Script::empty(alloc);
     for entry in order {
         if let Entry::Line { client, index } = *entry {
-            if client >= CLIENTS || index >= LINES || merged.lines() >= CLIENTS * LINES {
+            let is_full = merged.version() != 1 || merged.lines() >= CLIENTS * LINES;
+            if client >= CLIENTS || index >= LINES || is_full {
                 return Err(Fail::from("no such line"));
             }
             merged.add(line_of(client, index))?;

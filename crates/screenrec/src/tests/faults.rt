@@ -179,12 +179,36 @@ fn scripts_that_are_cut_off(rt: HostRuntime) -> Result<(), Fail> {
         "fill 0 0 1 1 FFFFFF\n",
         "blit 0 0 2 1 ff0000\n",
         "blit 0 0 65 64 0\n",
+        "paint 2\nfill 0 0 1 1 a0b0c0\ncopy 0 0 3 4 1 0\ncut\ncopy",
     ];
     for row in rows {
         for length in 0..row.len() {
             let front = row.as_bytes().get(..length).unwrap_or(&[]);
             assert_eq!(rt; status_of(rt.alloc(), front)?, status_of_front(front));
         }
+    }
+    Ok(())
+}
+
+// The first line of a file of version 2 is counted, and it stands nowhere else.
+#[test]
+fn scripts_of_version_2_that_are_refused(rt: HostRuntime) -> Result<(), Fail> {
+    for (script, line, cause) in [
+        ("copy 0 0 1 1 0 0\n", 1, Cause::UnknownCommand),
+        ("paint 2\ncopy 0 0 1 1 0\n", 2, Cause::WordCount),
+        ("cut\npaint 2\n", 2, Cause::UnknownCommand),
+        ("paint 2\npaint 2\n", 2, Cause::UnknownCommand),
+        ("paint 2", 1, Cause::NoLineFeed),
+    ] {
+        assert_eq!(rt;
+            status_of(rt.alloc(), script.as_bytes())?,
+            Status::BadPaint {
+                file: 0,
+                line,
+                cause
+            },
+            "{script}"
+        );
     }
     Ok(())
 }

@@ -1,7 +1,7 @@
 //! Recordings of several clients, each compared with one of its lines in the order in which they were accepted.
 ghost use Rattle.std.specs.Prelude.{◌≡◌, ◌≤◌, ◌<◌, ◌-◌, ◌+◌, ◌^◌, length, OnOk, IfOk};
 ghost use Rattle.std.specs.Option.{IfSome};
-ghost use Rattle.paint_script.specs.Spellable.{IsSpellable};
+ghost use Rattle.paint_script.specs.Spellable.{IsSpellable, IsOfVersion};
 
 use super::digest;
 use crate::stream_file::line_at;
@@ -141,9 +141,10 @@ fn place_of(order: &[Entry], line: Entry) -> usize {
 }
 
 // A line that is no blit.
-fn copy_of(line: &Line) -> Option<Line>
+fn twin_of(line: &Line) -> Option<Line>
     requires { IsSpellable line.now }
-    ensures { IfSome result IsSpellable }
+    ensures spellable { IfSome result IsSpellable }
+    ensures version { IfSome result (IsOfVersion 2) }
 {
     match line {
         Line::Fill { rect, colour } => Some(Line::Fill {
@@ -151,19 +152,24 @@ fn copy_of(line: &Line) -> Option<Line>
             colour: *colour,
         }),
         Line::Blit { .. } => None,
+        Line::Copy { rect, to_x, to_y } => Some(Line::Copy {
+            rect: *rect,
+            to_x: *to_x,
+            to_y: *to_y,
+        }),
         Line::Cut => Some(Line::Cut),
     }
 }
 
-// Adds a line of the script, if it has so many.
+// Adds a line of the script, if it has so many, to a script of version 2.
 fn add_line(merged: &mut Script, script: &Script, index: u32) -> Result<(), Fail>
-    requires { length merged.old < 2 ^ 32 - 1 }
-    ensures { OnOk result (length merged.new ≤ length merged.old + 1) }
+    requires { length merged.old.lines < 2 ^ 32 - 1 }
+    ensures { OnOk result (length merged.new.lines ≤ length merged.old.lines + 1) }
 {
-    if index >= script.lines() {
+    if merged.version() != 2 || index >= script.lines() {
         return Err(Fail::from("no such line"));
     }
-    let line = copy_of(line_at(script, index)).ok_or("a blit")?;
+    let line = twin_of(line_at(script, index)).ok_or("a blit")?;
     merged.add(line)?;
     Ok(())
 }
@@ -175,7 +181,7 @@ fn merged(alloc: Global, first: &[u8], second: &[u8], order: &[Entry]) -> Result
     }
     let first = read_script(alloc, first)?;
     let second = read_script(alloc, second)?;
-    let mut merged = Script::empty(alloc);
+    let mut merged = Script::empty_of(alloc, 2);
     for entry in order {
         if merged.lines() > 1000 {
             return Err(Fail::from("too many lines"));

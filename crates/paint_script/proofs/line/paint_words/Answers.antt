@@ -4,6 +4,5 @@ use Rattle.paint_script.proofs.line.paint_words.Goals as goal
 
 pub returns-in-Some : goal.returns-in-Some
 returns-in-Some c =
-    split-six (λ c. c == 32) c.args.text.now c.in_ok-x.text.now c.in_ok-y.text.now c.in_ok-w.text.now c.in_ok-h.last.now c.in-Some.field-0.1.now
-    _ _ _ _ _
-    c.in_ok-x.ensures.pieces c.in_ok-y.ensures.pieces c.in_ok-w.ensures.pieces c.in_ok-h.ensures.pieces c.in-Some.ensures.pieces
+    let words = c.in_ok-rect.rect in
+    split-six (λ c. c == 32) c.args.text.now c.in_ok-rect.last.now c.in-Some.field-0.1.now words.x.now words.y.now words.w.now words.h.now _ c.in_ok-rect.ensures c.in-Some.ensures.pieces

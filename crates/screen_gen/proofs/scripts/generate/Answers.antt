@@ -10,8 +10,8 @@ loop-client-preserved c =
     let n = c.loop-client.client in
     let added = rw c.in-Ok.is at c.add.ensures.added in
     added
-    ∙ ap (λ l. l ++ c.in_ok-script.script ∷ []) c.loop-client.invariant
-    ∙ ap (λ s. map scripts (below n) ++ s ∷ []) c.in_ok-script.ensures
+    ∙ ap (λ l. l ++ c.in_ok-script.script.lines ∷ []) c.loop-client.invariant
+    ∙ ap (λ s. map scripts (below n) ++ s.lines ∷ []) c.in_ok-script.ensures
     ∙ sym (map-range_with_len_more scripts 0 n n (omega arith))
 
 pub returns : goal.returns

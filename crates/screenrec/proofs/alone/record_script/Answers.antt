@@ -8,17 +8,17 @@ use Rattle.screenrec.proofs.alone.record_script.Goals as goal
 
 pub returns-in-Err-result-clause-files : goal.returns-in-Err-result-clause-files
 returns-in-Err-result-clause-files g c =
-    let own : c.in-Ok.order ≡ own_order (c.args.script.now ∷ []) =
+    let own : c.in-Ok.order ≡ own_order (c.args.script.now.lines ∷ []) =
     c.in-Ok.ensures ∙ ap (λ (n : ℕ). map (λ (index : ℕ). entry.Line 0 index) (range_with_len 0 n)) c.lines.ensures.value in
     rw c.status_of-in-Err-result.ensures
-    (stopped_files (serial_view c.args.words.now) (g.F.Shelf.files c.args.shelf.now) (g.F.Shelf.files c.write_stream.new.shelf) c.args.script.now c.in-Ok.order
+    (stopped_files (serial_view c.args.words.now) (g.F.Shelf.files c.args.shelf.now) (g.F.Shelf.files c.write_stream.new.shelf) c.args.script.now.lines c.in-Ok.order
     c.in-Ok-write_stream.ending.written c.in-Err-result.error own
     (rw c.in-Err-result.is at c.in-Ok-write_stream.ensures.files))
 
 pub returns-clause-files : goal.returns-clause-files
 returns-clause-files g c =
-    let own : c.in-Ok.order ≡ own_order (c.args.script.now ∷ []) =
+    let own : c.in-Ok.order ≡ own_order (c.args.script.now.lines ∷ []) =
     c.in-Ok.ensures ∙ ap (λ (n : ℕ). map (λ (index : ℕ). entry.Line 0 index) (range_with_len 0 n)) c.lines.ensures.value in
-    whole_files (serial_view c.args.words.now) (g.F.Shelf.files c.args.shelf.now) (g.F.Shelf.files c.write_stream.new.shelf) c.args.script.now c.in-Ok.order
+    whole_files (serial_view c.args.words.now) (g.F.Shelf.files c.args.shelf.now) (g.F.Shelf.files c.write_stream.new.shelf) c.args.script.now.lines c.in-Ok.order
     c.in-Ok-write_stream.ending.written c.report_script-status.result c.report_script-status.ensures.status (c.w-width.ensures.within, c.requires.within.0) c.lines.ensures.spellable own
     (rw c.in_default-result.is at c.in-Ok-write_stream.ensures.files)

@@ -20,19 +20,19 @@ returns-in-Err-BadLine-clause-scripts c =
 pub returns-then-lines-so_far-clause-scripts : goal.returns-then-lines-so_far-clause-scripts
 returns-then-lines-so_far-clause-scripts c =
     let short : length c.args.bytes.now ≤ most_bytes = omega (arith, c.requires.lines, c.requires.cuts) in
-    let more : most_lines < c.args.so_far.lines + length c.in-Ok.script = omega (arith, c.requires.lines, c.requires.cuts) in
-    many_lines c.args.file c.args.so_far.lines c.args.so_far.cuts c.args.bytes.now c.in-Ok.script short c.in-Ok.ensures.read more
+    let more : most_lines < c.args.so_far.lines + length c.in-Ok.script.lines = omega (arith, c.requires.lines, c.requires.cuts) in
+    many_lines c.args.file c.args.so_far.lines c.args.so_far.cuts c.args.bytes.now c.in-Ok.script.lines short c.in-Ok.ensures.read more
 
 pub returns-then-cuts-so_far-clause-scripts : goal.returns-then-cuts-so_far-clause-scripts
 returns-then-cuts-so_far-clause-scripts c =
     let short : length c.args.bytes.now ≤ most_bytes = omega (arith, c.requires.lines, c.requires.cuts) in
-    let few : c.args.so_far.lines + length c.in-Ok.script ≤ most_lines = omega (arith, c.requires.lines, c.requires.cuts) in
-    let more : most_cuts < c.args.so_far.cuts + count_by is_cut c.in-Ok.script = omega (arith, c.requires.lines, c.requires.cuts) in
-    many_cuts c.args.file c.args.so_far.lines c.args.so_far.cuts c.args.bytes.now c.in-Ok.script short c.in-Ok.ensures.read few more
+    let few : c.args.so_far.lines + length c.in-Ok.script.lines ≤ most_lines = omega (arith, c.requires.lines, c.requires.cuts) in
+    let more : most_cuts < c.args.so_far.cuts + count_by is_cut c.in-Ok.script.lines = omega (arith, c.requires.lines, c.requires.cuts) in
+    many_cuts c.args.file c.args.so_far.lines c.args.so_far.cuts c.args.bytes.now c.in-Ok.script.lines short c.in-Ok.ensures.read few more
 
 pub returns-clause-scripts : goal.returns-clause-scripts
 returns-clause-scripts c =
     let short : length c.args.bytes.now ≤ most_bytes = omega (arith, c.requires.lines, c.requires.cuts) in
-    let few : c.args.so_far.lines + length c.in-Ok.script ≤ most_lines = omega (arith, c.requires.lines, c.requires.cuts) in
-    let few_cuts : c.args.so_far.cuts + count_by is_cut c.in-Ok.script ≤ most_cuts = omega (arith, c.requires.lines, c.requires.cuts) in
-    one_accepted c.args.file c.args.so_far.lines c.args.so_far.cuts c.args.bytes.now c.in-Ok.script short c.in-Ok.ensures.read few few_cuts
+    let few : c.args.so_far.lines + length c.in-Ok.script.lines ≤ most_lines = omega (arith, c.requires.lines, c.requires.cuts) in
+    let few_cuts : c.args.so_far.cuts + count_by is_cut c.in-Ok.script.lines ≤ most_cuts = omega (arith, c.requires.lines, c.requires.cuts) in
+    one_accepted c.args.file c.args.so_far.lines c.args.so_far.cuts c.args.bytes.now c.in-Ok.script.lines short c.in-Ok.ensures.read few few_cuts

@@ -30,13 +30,13 @@ returns-in_err-script-clause-files g c =
 pub loop-file-preserved : goal.loop-file-preserved
 loop-file-preserved g c =
     let scripts = c.loop-file.scripts in
-    let script = c.in_ok-script.script in
+    let script = c.in_ok-script.script.lines in
     let more = c.in-Ok-add.ensures.added in
     let so_far = c.loop-file.invariant in
     record {
       told = subst (λ (s : List (List Line)). ToldSoFar (g.F.Shelf.files c.args.shelf.now) (g.F.Shelf.files c.read_next-in-loop-file.new.shelf) c.args.names.now (c.loop-file.file + 1) s) (sym more)
           (told_accepted (g.F.Shelf.files c.args.shelf.now) (g.F.Shelf.files c.loop-file.shelf) (g.F.Shelf.files c.read_next-in-loop-file.new.shelf) c.args.names.now
-          c.loop-file.file c.loop-file.so_far.lines c.loop-file.so_far.cuts scripts script (omega (arith, c.loop-file-test.true)) so_far.lines so_far.cuts so_far.told
+          c.loop-file.file c.loop-file.so_far.lines c.loop-file.so_far.cuts scripts c.in_ok-script.script (omega (arith, c.loop-file-test.true)) so_far.lines so_far.cuts so_far.told
           c.in_ok-script.ensures.files);
       lines = c.with-so_far-in-loop-file.ensures.lines ∙ ap (λ (n : ℕ). n + length script) so_far.lines ∙ sym (sum_by_push length scripts script) ∙ ap all_lines (sym more);
       cuts = c.with-so_far-in-loop-file.ensures.cuts ∙ ap (λ (n : ℕ). n + count_by is_cut script) so_far.cuts ∙ sym (sum_by_push (count_by is_cut) scripts script) ∙ ap all_cuts (sym more);

@@ -1,6 +1,6 @@
 use Rattle.std.proofs.Common.{◌≡◌, false, refl}
 use Rattle.recorder_model.specs.declared.line.Line.{Line}
-use Rattle.recorder_model.specs.declared.line.Line.TheVariants.{Fill, Blit, Cut}
+use Rattle.recorder_model.specs.declared.line.Line.TheVariants.{Fill, Blit, Copy, Cut}
 use Rattle.recorder_model.specs.Script.{is_cut}
 use Rattle.desk_state.proofs.Jobs.{painted_after}
 use Rattle.desk_state.proofs.replay.Replay.accept.Goals as goal
@@ -8,6 +8,7 @@ use Rattle.desk_state.proofs.replay.Replay.accept.Goals as goal
 paints : (line : Line) → (line ≡ Cut → ⊥) → is_cut line ≡ false
 paints (Fill r c) not_cut = refl
 paints (Blit r pixels) not_cut = refl
+paints (Copy r to_x to_y) not_cut = refl
 paints Cut not_cut = absurd (not_cut refl)
 
 pub returns : goal.returns

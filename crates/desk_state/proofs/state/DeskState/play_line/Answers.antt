@@ -1,4 +1,4 @@
-use Rattle.std.proofs.Common.{◌≡◌, ◌<◌, ◌-◌, ◌^◌, [], true, length, refl, sym, subst, ap, ◌∙◌}
+use Rattle.std.proofs.Common.{◌≡◌, ◌<◌, ◌-◌, ◌^◌, true, length, refl, sym, subst, ap, ◌∙◌}
 use Rattle.recorder_model.specs.declared.entry.Entry.TheVariants as entry
 use Rattle.recorder_model.specs.declared.line.Line.TheVariants.{Cut}
 use Rattle.recorder_model.specs.Script.{is_cut}
@@ -6,24 +6,24 @@ use Rattle.recorder_model.specs.Turn.{State}
 use Rattle.recorder_model.specs.Histories.{IsLawful}
 use Rattle.desk_state.specs.Standing.{IsNext, next_line}
 use Rattle.desk_state.specs.Inside.{state_of}
-use Rattle.desk_state.proofs.Lookups.{found, client_there, line_there, line_read, pixels_read, on_err}
+use Rattle.desk_state.proofs.Lookups.{found, script_found, client_there, line_there, line_read, pixels_read, on_err}
 use Rattle.desk_state.proofs.Accepted.{few_now, few_cuts_now, room_now, desk_from, desk_played}
 use Rattle.desk_state.proofs.state.DeskState.play_line.Goals as goal
 
 pub unwrap-script-requires : goal.unwrap-script-requires
 unwrap-script-requires c =
     let next : IsNext (state_of c.self.inside) c.args.client c.args.index = subst (λ (s : State). IsNext s c.args.client c.args.index) (sym c.self.view_is) c.requires.next in
-    found c.script.result c.self.inside.scripts c.args.client [] c.script.ensures (client_there c.self.inside.scripts c.args.client c.args.index next.there)
+    script_found c.script.result c.self.inside.scripts c.args.client c.script.ensures (client_there c.self.inside.scripts c.args.client c.args.index next.there)
 
 pub unwrap-requires : goal.unwrap-requires
 unwrap-requires c =
     let next : IsNext (state_of c.self.inside) c.args.client c.args.index = subst (λ (s : State). IsNext s c.args.client c.args.index) (sym c.self.view_is) c.requires.next in
-    found c.line.result c.unwrap-script.result.now c.args.index Cut c.line.ensures (line_there c.self.inside.scripts c.args.client c.args.index c.script.result c.unwrap-script.result c.script.ensures c.unwrap-script.ensures next.there)
+    found c.line.result c.unwrap-script.result.now.lines c.args.index Cut c.line.ensures (line_there c.self.inside.scripts c.args.client c.args.index c.script.result c.unwrap-script.result c.script.ensures c.unwrap-script.ensures next.there)
 
 pub accept-requires-clause-pixels : goal.accept-requires-clause-pixels
 accept-requires-clause-pixels c =
     let next : IsNext (state_of c.self.inside) c.args.client c.args.index = subst (λ (s : State). IsNext s c.args.client c.args.index) (sym c.self.view_is) c.requires.next in
-    pixels_read c.unwrap-script.result.now c.args.index c.line.result c.unwrap.result c.lines-lines.ensures.spellable c.line.ensures c.unwrap.ensures
+    pixels_read c.unwrap-script.result.now.lines c.args.index c.line.result c.unwrap.result c.lines-lines.ensures.spellable c.line.ensures c.unwrap.ensures
     (line_there c.self.inside.scripts c.args.client c.args.index c.script.result c.unwrap-script.result c.script.ensures c.unwrap-script.ensures next.there)
 
 pub accept-requires-clause-few : goal.accept-requires-clause-few
