@@ -1,6 +1,7 @@
 -- The words that the program was given, as the definitions see them.
 use Rattle.std.specs.Prelude.{ℕ, ◌≤◌, List, map, length}
 use Rattle.std.specs.Borrow.{Bor}
+use Rattle.h265_model.specs.Settings as model
 use Rattle.recorder_model.specs.Words as words
 use Rattle.command_line.specs.declared.row.Settings.{Settings}
 use Rattle.command_line.specs.declared.row.Row.{Row}
@@ -10,7 +11,7 @@ use Rattle.command_line.specs.declared.row.Row.TheVariants.{Record, Serial, Demo
 abbrev pub texts : List (Bor (List ℕ)) → List (List ℕ)
 texts list = map (λ word. word.now) list
 
-abbrev pub settings_view : Settings → words.Settings
+abbrev pub settings_view : Settings → model.Settings
 settings_view s = record { size = s.size; effort = s.effort; key = s.key }
 
 -- a row of the table

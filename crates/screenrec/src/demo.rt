@@ -2,7 +2,7 @@
 ghost use Rattle.std.specs.Prelude.{◌≡◌, ◌≤◌, ◌<◌, ◌⊎◌, ◌+◌, ◌-◌, ◌^◌, ◌++◌, ◌∷◌, [], ℕ, List, length, IfOk, OnOk};
 ghost use Rattle.recorder_model.specs.declared.line.Line.{Line};
 ghost use Rattle.recorder_model.specs.Files.{WhereTold, Rose};
-ghost use Rattle.recorder_model.specs.Words as table;
+ghost use Rattle.h265_model.specs.Settings as model;
 ghost use Rattle.recorder_model.specs.Words.{row_of};
 ghost use Rattle.recorder_model.specs.Painting.{accepted_line};
 ghost use Rattle.recorder_model.specs.Histories.{script_length};
@@ -161,9 +161,9 @@ fn play_line(line: &Line, stage: &mut Stage) -> Result<u64, NoMemory>
     requires played { IsPlayed stage.old }
     requires few { stage.old.cuts < 2 ^ 32 - 1 }
     requires spellable { IsSpellable line.now }
-    ensures played { OnOk result ((settings : table.Settings) (done : List Line) → HasPlayed settings stage.old done → HasPlayed settings stage.new (done ++ line.now ∷ [])) }
+    ensures played { OnOk result ((settings : model.Settings) (done : List Line) → HasPlayed settings stage.old done → HasPlayed settings stage.new (done ++ line.now ∷ [])) }
     ensures cuts { OnOk result (stage.new.cuts ≤ stage.old.cuts + 1) }
-    ensures counted { (settings : table.Settings) (done : List Line) → HasPlayed settings stage.old done → IfOk result (λ count.
+    ensures counted { (settings : model.Settings) (done : List Line) → HasPlayed settings stage.old done → IfOk result (λ count.
         length (stream_after settings (done ++ line.now ∷ [])) ≡ length (stream_after settings done) + count) }
     ensures short { IfOk result (λ count. count < 2 ^ 40) }
 {

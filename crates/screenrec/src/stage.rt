@@ -2,7 +2,7 @@
 ghost use Rattle.std.specs.Prelude.{◌≡◌, ◌≤◌, ◌<◌, ◌^◌, ◌-◌, ◌+◌, ◌++◌, ◌∷◌, [], List, length, false, IfOk, OnOk};
 ghost use Rattle.recorder_model.specs.declared.line.Line.{Line};
 ghost use Rattle.recorder_model.specs.declared.line.Line.TheVariants as line;
-ghost use Rattle.recorder_model.specs.Words as table;
+ghost use Rattle.h265_model.specs.Settings as model;
 ghost use Rattle.recorder_model.specs.Script.{is_cut};
 ghost use Rattle.command_line.specs.Views.{settings_view};
 ghost use Rattle.desk_surface.specs.Damage.{HasPixels};
@@ -67,7 +67,7 @@ impl Stage {
     pub fn paint(&mut self, line: &Line)
         requires paints { is_cut line.now ≡ false }
         requires pixels { HasPixels line.now }
-        ensures played { (settings : table.Settings) (done : List Line) → HasPlayed settings self.old done → HasPlayed settings self.new (done ++ line.now ∷ []) }
+        ensures played { (settings : model.Settings) (done : List Line) → HasPlayed settings self.old done → HasPlayed settings self.new (done ++ line.now ∷ []) }
         ensures cuts { self.new.cuts ≡ self.old.cuts }
     {
         self.surface.apply(line);
@@ -81,9 +81,9 @@ impl Stage {
     pub fn cut(&mut self) -> Result<Vec<u8>, NoMemory>
         requires played { IsPlayed self.old }
         requires few { self.old.cuts < 2 ^ 32 - 1 }
-        ensures played { OnOk result ((settings : table.Settings) (done : List Line) → HasPlayed settings self.old done → HasPlayed settings self.new (done ++ line.Cut ∷ [])) }
+        ensures played { OnOk result ((settings : model.Settings) (done : List Line) → HasPlayed settings self.old done → HasPlayed settings self.new (done ++ line.Cut ∷ [])) }
         ensures cuts { OnOk result (self.new.cuts ≡ self.old.cuts + 1) }
-        ensures piece { IfOk result (λ piece. (settings : table.Settings) (done : List Line) → HasPlayed settings self.old done → piece.items ≡ cut_piece settings done) }
+        ensures piece { IfOk result (λ piece. (settings : model.Settings) (done : List Line) → HasPlayed settings self.old done → piece.items ≡ cut_piece settings done) }
         ensures short { IfOk result (λ piece. length piece.items < 2 ^ 40) }
     {
         let job = self.surface.cut_job(self.cuts)?;

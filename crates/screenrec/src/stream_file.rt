@@ -4,7 +4,7 @@ ghost use Rattle.std.specs.FinMap.{insert};
 ghost use Rattle.recorder_model.specs.declared.line.Line.{Line};
 ghost use Rattle.recorder_model.specs.declared.line.Line.TheVariants as line;
 ghost use Rattle.recorder_model.specs.Files.{Files, WhereTold};
-ghost use Rattle.recorder_model.specs.Words as table;
+ghost use Rattle.h265_model.specs.Settings as model;
 ghost use Rattle.recorder_model.specs.Headline.{most_lines};
 ghost use Rattle.edges.specs.Causes.{HasWriteCause};
 ghost use Rattle.paint_script.specs.Spellable.{IsSpellable, AreSpellable};
@@ -32,14 +32,14 @@ pub struct Ending {
 fn append_picture<F: Shelf>(stage: &mut Stage, name: &str, shelf: &mut F) -> Result<u64, WriteError>
     requires played { IsPlayed stage.old }
     requires few { stage.old.cuts < 2 ^ 32 - 1 }
-    ensures played { OnOk result ((settings : table.Settings) (done : List Line) → HasPlayed settings stage.old done → HasPlayed settings stage.new (done ++ line.Cut ∷ [])) }
+    ensures played { OnOk result ((settings : model.Settings) (done : List Line) → HasPlayed settings stage.old done → HasPlayed settings stage.new (done ++ line.Cut ∷ [])) }
     ensures cuts { OnOk result (stage.new.cuts ≡ stage.old.cuts + 1) }
     ensures cause { HasWriteCause (F.write_faults shelf.old) (F.write_faults shelf.new) result }
     ensures reads { F.read_faults shelf.new ≡ F.read_faults shelf.old }
-    ensures counted { (settings : table.Settings) (done : List Line) → HasPlayed settings stage.old done →
+    ensures counted { (settings : model.Settings) (done : List Line) → HasPlayed settings stage.old done →
         IfOk result (λ count. count ≡ length (cut_piece settings done)) }
     ensures short { IfOk result (λ count. count < 2 ^ 40) }
-    ensures files { (settings : table.Settings) (done : List Line) → HasPlayed settings stage.old done →
+    ensures files { (settings : model.Settings) (done : List Line) → HasPlayed settings stage.old done →
         WhereTold (F.files shelf.old) (F.files shelf.new) (λ before after.
         AppendsPiece name.now (cut_piece settings done) before after result) }
 {
@@ -60,14 +60,14 @@ fn play_line<F: Shelf>(
     requires played { IsPlayed stage.old }
     requires few { stage.old.cuts < 2 ^ 32 - 1 }
     requires spellable { IsSpellable line.now }
-    ensures played { OnOk result ((settings : table.Settings) (done : List Line) → HasPlayed settings stage.old done → HasPlayed settings stage.new (done ++ line.now ∷ [])) }
+    ensures played { OnOk result ((settings : model.Settings) (done : List Line) → HasPlayed settings stage.old done → HasPlayed settings stage.new (done ++ line.now ∷ [])) }
     ensures cuts { OnOk result (stage.new.cuts ≤ stage.old.cuts + 1) }
     ensures cause { HasWriteCause (F.write_faults shelf.old) (F.write_faults shelf.new) result }
     ensures reads { F.read_faults shelf.new ≡ F.read_faults shelf.old }
-    ensures counted { (settings : table.Settings) (done : List Line) → HasPlayed settings stage.old done → IfOk result (λ count.
+    ensures counted { (settings : model.Settings) (done : List Line) → HasPlayed settings stage.old done → IfOk result (λ count.
         length (stream_after settings (done ++ line.now ∷ [])) ≡ length (stream_after settings done) + count) }
     ensures short { IfOk result (λ count. count < 2 ^ 40) }
-    ensures files { (settings : table.Settings) (done : List Line) → HasPlayed settings stage.old done →
+    ensures files { (settings : model.Settings) (done : List Line) → HasPlayed settings stage.old done →
         WhereTold (F.files shelf.old) (F.files shelf.new) (λ before after. (start : Files) →
         before ≡ insert start name.now (stream_after settings done) → Continues settings name.now done line.now start after result) }
 {

@@ -2,7 +2,7 @@ use Rattle.std.proofs.Common.{◌≡◌, ℕ, ◌+◌, ◌%◌, ◌/◌, List, [
 use Rattle.recorder_model.specs.declared.entry.Entry.{Entry}
 use Rattle.recorder_model.specs.declared.line.Line.{Line}
 use Rattle.h265_model.specs.Plain.{below}
-use Rattle.recorder_model.specs.Words as table
+use Rattle.h265_model.specs.Settings as model
 use Rattle.recorder_model.specs.Painting.{lines_of}
 use Rattle.screenrec.specs.Stored.{stream_after}
 use Rattle.screenrec.specs.Played.{HasPlayed}
@@ -14,13 +14,13 @@ pub loop-turn-init : goal.loop-turn-init
 unfolding lines_of
 loop-turn-init c =
     let played : HasPlayed demo_settings c.in_ok-stage.stage [] =
-    subst (λ (s : table.Settings). HasPlayed s c.in_ok-stage.stage []) c.demo_settings.ensures.settings c.in_ok-stage.ensures in
+    subst (λ (s : model.Settings). HasPlayed s c.in_ok-stage.stage []) c.demo_settings.ensures.settings c.in_ok-stage.ensures in
     let first : c.len-written.result ≡ length (stream_after c.in_ok-stage.stage.encoder.settings []) =
     omega (arith, c.len-written.ensures, c.in_ok-first.field-0.ok, ap length c.in_ok-first.ensures.piece) in
     record {
       order = c.new-order.ensures.items;
       played = played;
-      counted = first ∙ ap (λ (s : table.Settings). length (stream_after s [])) played.same;
+      counted = first ∙ ap (λ (s : model.Settings). length (stream_after s [])) played.same;
       cuts = omega (arith, played.counted);
       short = omega (arith, c.len-written.ensures, c.in_ok-first.field-0.ok, c.in_ok-first.ensures.short);
     }
