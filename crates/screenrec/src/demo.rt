@@ -3,7 +3,6 @@ ghost use Rattle.std.specs.Prelude.{◌≡◌, ◌≤◌, ◌<◌, ◌⊎◌, �
 ghost use Rattle.recorder_model.specs.declared.line.Line.{Line};
 ghost use Rattle.recorder_model.specs.Files.{WhereTold, Rose};
 ghost use Rattle.h265_model.specs.Settings as model;
-ghost use Rattle.recorder_model.specs.Words as table;
 ghost use Rattle.recorder_model.specs.Words.{row_of};
 ghost use Rattle.recorder_model.specs.Painting.{accepted_line};
 ghost use Rattle.recorder_model.specs.Histories.{script_length};

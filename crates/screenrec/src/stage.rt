@@ -3,7 +3,6 @@ ghost use Rattle.std.specs.Prelude.{◌≡◌, ◌≤◌, ◌<◌, ◌^◌, ◌-
 ghost use Rattle.recorder_model.specs.declared.line.Line.{Line};
 ghost use Rattle.recorder_model.specs.declared.line.Line.TheVariants as line;
 ghost use Rattle.h265_model.specs.Settings as model;
-ghost use Rattle.recorder_model.specs.Words as table;
 ghost use Rattle.recorder_model.specs.Script.{is_cut};
 ghost use Rattle.command_line.specs.Views.{settings_view};
 ghost use Rattle.desk_surface.specs.Damage.{HasPixels};

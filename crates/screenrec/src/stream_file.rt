@@ -5,7 +5,6 @@ ghost use Rattle.recorder_model.specs.declared.line.Line.{Line};
 ghost use Rattle.recorder_model.specs.declared.line.Line.TheVariants as line;
 ghost use Rattle.recorder_model.specs.Files.{Files, WhereTold};
 ghost use Rattle.h265_model.specs.Settings as model;
-ghost use Rattle.recorder_model.specs.Words as table;
 ghost use Rattle.recorder_model.specs.Headline.{most_lines};
 ghost use Rattle.edges.specs.Causes.{HasWriteCause};
 ghost use Rattle.paint_script.specs.Spellable.{IsSpellable, AreSpellable};

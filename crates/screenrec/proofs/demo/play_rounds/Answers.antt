@@ -3,7 +3,6 @@ use Rattle.recorder_model.specs.declared.entry.Entry.{Entry}
 use Rattle.recorder_model.specs.declared.line.Line.{Line}
 use Rattle.h265_model.specs.Plain.{below}
 use Rattle.h265_model.specs.Settings as model
-use Rattle.recorder_model.specs.Words as table
 use Rattle.recorder_model.specs.Painting.{lines_of}
 use Rattle.screenrec.specs.Stored.{stream_after}
 use Rattle.screenrec.specs.Played.{HasPlayed}
