@@ -1,1 +1,2 @@
 pub mod ExtraStreams
+pub mod Beginnings

@@ -29,6 +29,7 @@ use Rattle.h265_laws.proofs.HeadLaws.{read_head-head_bits}
 use Rattle.h265_laws.proofs.SliceLaw.{rows_fit, substreams_cut}
 use Rattle.h265_laws.proofs.StreamLaw.{some_escaped, length_but_last, map_map, head_ends}
 use Rattle.stream_laws.proofs.OldStreams.{now_whole}
+use Rattle.stream_laws.proofs.StreamForm.{two_bytes}
 use Rattle.unit_laws.specs.Laws.{AreLawfulUnits}
 use Rattle.unit_laws.proofs.Coded.{IsCoded}
 use Rattle.unit_laws.proofs.UnitRows.{row_values, read_first, coded_is, row_read_on, row_is_read, contexts_are, next_start, slice_row}
@@ -53,10 +54,6 @@ piece_is_unit idr poc code rows each =
     escape_append 255 255 front (flat_map (λ r. r) list) (head_ends (head_of idr poc list)) ∙ ap (λ (l : List ℕ). escape front ++ l) (escape_rows list each) in
     ap (λ (es : List (List ℕ)). ((start_code ++ nal_header idr) ++ escape (bytes (head_bits (record { idr = idr; poc = poc; offsets = map length (but_last es) })))) ++ flat_map (λ r. r) es) (map_map code rows)
     ∙ (append_assoc (start_code ++ nal_header idr) (escape front) (flat_map (λ r. r) (map escape list)) ∙ ap (λ (l : List ℕ). (start_code ++ nal_header idr) ++ l) (sym whole))
-
-two_bytes : (b : Bool) → (first second : ℕ) × (0 < second) × (nal_header b ≡ first ∷ second ∷ [])
-two_bytes true = (0x28, 1, omega arith, refl)
-two_bytes false = (0x02, 1, omega arith, refl)
 
 unit_is : (idr : Bool) (poc : ℕ) (row : List ℕ) (rows : List (List ℕ)) → AllByRecursion Ends (row ∷ rows) → IsNalUnit (slice_unit idr poc (row ∷ rows))
 unit_is idr poc row rows each =

@@ -13,6 +13,7 @@ use Rattle.h265_model.specs.Plain.{covers}
 use Rattle.h265_model.specs.Tree.{ReadUnit, leaf_of}
 use Rattle.h265_laws.proofs.Coverage.{is_covered, covers_parts}
 use Rattle.h265_laws.proofs.ZOrder.{IsWithin}
+use Rattle.read_laws.proofs.ReadTrees.{map-append}
 use Rattle.read_laws.specs.Laws.{AreTreesFrom, AreApart, EachPlaceIsDrawnOnce}
 
 false_of : (b : Bool) → (b ≡ true → ⊥) → b ≡ false
@@ -222,10 +223,6 @@ number_in size ctu px py w =
 abbrev leaves_from : List ReadUnit → List Leaf
 leaves_from us = map leaf_of us
 
-from-append : (a b : List ReadUnit) → leaves_from (a ++ b) ≡ leaves_from a ++ leaves_from b
-from-append [] b = refl
-from-append (u ∷ a) b = ap (λ (l : List Leaf). leaf_of u ∷ l) (from-append a b)
-
 trees_apart : (kind : SliceKind) (size : Size) (ctu : ℕ) (before : List Leaf) (trees : List (List ReadUnit)) → AreTreesFrom kind size ctu trees
     → ((px py : ℕ) → is_covered before px py ≡ true → number_of size px py < ctu) → AreApart before (leaves_from (joined trees))
 trees_apart kind size ctu before [] h lower = tt
@@ -239,7 +236,7 @@ trees_apart kind size ctu before (us ∷ trees) h lower =
     (λ b. let l : number_of size px py < ctu = lower px py b in omega arith)
     (λ k. let e : number_of size px py ≡ ctu = number_in size ctu px py (tree_within size 2 (ctu_x size ctu) (ctu_y size ctu) here tree px py k) in omega arith)
     (covered_by before here px py c) in
-    subst (AreApart before) (sym (from-append us (joined trees)))
+    subst (AreApart before) (sym (map-append us (joined trees)))
     (apart-append before here (leaves_from (joined trees)) (tree_apart size 2 (ctu_x size ctu) (ctu_y size ctu) before here tree clear) (trees_apart kind size (suc ctu) (before ++ here) trees h.2 next))
 
 pub places_are_apart : EachPlaceIsDrawnOnce

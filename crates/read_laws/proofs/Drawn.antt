@@ -19,6 +19,7 @@ use Rattle.h265_model.proofs.Squares.{same_places}
 use Rattle.h265_laws.proofs.Coverage.{is_covered, Covers, IsPlaced, ArePlaced, CoversBlock, inside_from}
 use Rattle.h265_laws.proofs.CoverLaw.{joined_cover}
 use Rattle.h265_laws.proofs.RebuildLaw.{Agree, prediction_same, last_order}
+use Rattle.read_laws.proofs.ReadTrees.{map-append}
 use Rattle.read_laws.specs.Laws.{IsNoCopy, IsSound, AreTreesFrom, IsReadFirst, EachReadPictureIsDrawn}
 
 -- ---- trees of leaves
@@ -26,13 +27,9 @@ use Rattle.read_laws.specs.Laws.{IsNoCopy, IsSound, AreTreesFrom, IsReadFirst, E
 abbrev leaves_from : List ReadUnit → List Leaf
 leaves_from us = map leaf_of us
 
-from-append : (a b : List ReadUnit) → leaves_from (a ++ b) ≡ leaves_from a ++ leaves_from b
-from-append [] b = refl
-from-append (u ∷ a) b = ap (λ (l : List Leaf). leaf_of u ∷ l) (from-append a b)
-
 leaves_joined : (trees : List (List ReadUnit)) → joined (map leaves_from trees) ≡ leaves_from (joined trees)
 leaves_joined [] = refl
-leaves_joined (us ∷ trees) = ap (λ (l : List Leaf). leaves_from us ++ l) (leaves_joined trees) ∙ sym (from-append us (joined trees))
+leaves_joined (us ∷ trees) = ap (λ (l : List Leaf). leaves_from us ++ l) (leaves_joined trees) ∙ sym (map-append us (joined trees))
 
 one_allowed : (kind : SliceKind) (c : Content) → IsNoCopy kind (vector_of c) → IsAllowed kind (kind_of c)
 one_allowed I (Copied v) h = absurd (cc)

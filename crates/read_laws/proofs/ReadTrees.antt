@@ -126,7 +126,7 @@ modes_after kind size before us modes h =
     subst AreModes (sym (leaves-append before (map moving_of us) ∙ ap (λ (l : List Leaf). leaves before ++ l) (leaves_read us)))
     (all_append (λ leaf. IsMode leaf.kind) (leaves before) (map leaf_of us) modes (sound_modes kind size us h))
 
-map-append : (a b : List ReadUnit) → map leaf_of (a ++ b) ≡ map leaf_of a ++ map leaf_of b
+pub map-append : (a b : List ReadUnit) → map leaf_of (a ++ b) ≡ map leaf_of a ++ map leaf_of b
 map-append [] b = refl
 map-append (u ∷ a) b = ap (λ (l : List Leaf). leaf_of u ∷ l) (map-append a b)
 

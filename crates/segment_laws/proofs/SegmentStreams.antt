@@ -1,5 +1,5 @@
 -- The stream of pictures in a slice segment for each row is decoded to them.
-use Rattle.std.proofs.Common.{◌≡◌, refl, sym, ◌∙◌, ap, ℕ, zero, suc, ◌+◌, ◌*◌, ◌%◌, ◌<◌, List, [], ◌∷◌, ◌++◌, Bool, true, false, length, map, take, take_all, append_assoc, arith}
+use Rattle.std.proofs.Common.{◌≡◌, refl, sym, ◌∙◌, ap, ℕ, zero, suc, ◌+◌, ◌*◌, ◌%◌, ◌<◌, List, [], ◌∷◌, ◌++◌, Bool, true, length, map, take, take_all, append_assoc, arith}
 use Rattle.std.specs.Prelude.{Option, None, Ok}
 use Rattle.std.specs.List.{AllByRecursion, flat_map}
 use Rattle.std.proofs.lemmas.List.{length-map}
@@ -33,7 +33,7 @@ use Rattle.h265_laws.proofs.StreamLaw.{picture_of, leaves_of, source_in, lawful_
 use Rattle.stream_laws.proofs.OldPictures.{rebuild_same}
 use Rattle.stream_laws.proofs.OldStreams.{now_whole}
 use Rattle.stream_laws.proofs.SetsLaw.{sets_are_read}
-use Rattle.stream_laws.proofs.StreamForm.{ReadsOn, AreRead, stream_is_decoded}
+use Rattle.stream_laws.proofs.StreamForm.{two_bytes, ReadsOn, AreRead, stream_is_decoded}
 use Rattle.stream_laws.proofs.Behind.{IsBehind, behind_is, low_count, zero_count, still_copies}
 use Rattle.unit_laws.specs.Laws.{AreLawfulUnits}
 use Rattle.unit_laws.proofs.StillUnits.{lawful_still, first_reads, segment_code_still}
@@ -88,10 +88,6 @@ pieces_are_units settings idr poc before raster (row ∷ rows) =
     ap (λ (l : List ℕ). segment_piece size idr poc row l ++ rest) (segment_code_still (slice_kind idr) size (source_in settings raster) (leaves_of settings idr before raster) row)
     ∙ (ap (λ (l : List ℕ). l ++ rest) (piece_is_unit size idr poc (codes_of settings idr before raster) row)
     ∙ ap (λ (l : List ℕ). nal_unit_bytes (row_unit size idr poc (codes_of settings idr before raster) row) ++ l) (pieces_are_units settings idr poc before raster rows))
-
-two_bytes : (b : Bool) → (first second : ℕ) × (0 < second) × (nal_header b ≡ first ∷ second ∷ [])
-two_bytes true = (0x28, 1, omega arith, refl)
-two_bytes false = (0x02, 1, omega arith, refl)
 
 unit_is : (settings : Settings) (idr : Bool) (poc : ℕ) (before : Option Raster) (raster : Raster) (row : ℕ) → IsFit settings.size → IsRaster settings.size raster
     → IsNalUnit (row_unit settings.size idr poc (codes_of settings idr before raster) row)

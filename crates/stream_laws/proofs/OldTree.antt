@@ -98,7 +98,7 @@ pub units_still : (reads : List Tree.ReadLeaf) → AreStill (map moving_of (unit
 units_still [] = tt
 units_still (r ∷ reads) = (content_still r.content, units_still reads)
 
-leaves-append : (a b : List Moving) → leaves (a ++ b) ≡ leaves a ++ leaves b
+pub leaves-append : (a b : List Moving) → leaves (a ++ b) ≡ leaves a ++ leaves b
 leaves-append [] b = refl
 leaves-append (u ∷ a) b = ap (λ (l : List Leaf). u.leaf ∷ l) (leaves-append a b)
 

@@ -1,5 +1,5 @@
 -- Streams whose pictures are NAL units of any kind are decoded to them, where each picture's NAL units are read.
-use Rattle.std.proofs.Common.{◌≡◌, refl, sym, ◌∙◌, ap, ℕ, ◌+◌, ◌%◌, List, [], ◌∷◌, ◌++◌, Bool, length, drop, arith}
+use Rattle.std.proofs.Common.{◌≡◌, refl, sym, ◌∙◌, ap, ℕ, ◌+◌, ◌%◌, List, [], ◌∷◌, ◌++◌, Bool, length, drop, arith, true, false, ◌<◌}
 use Rattle.std.specs.Prelude.{Option, Some, None, Ok, Result}
 use Rattle.std.specs.List.{AllByRecursion, flat_map}
 use Rattle.std.proofs.lemmas.Bool.{le-ltb}
@@ -11,7 +11,7 @@ use Rattle.h265_model.specs.Settings.{Settings}
 use Rattle.h265_model.specs.Raster.{Raster, IsRaster}
 use Rattle.h265_model.specs.NalUnits.{NalUnit, IsNalUnit, nal_unit_bytes, stream_bytes, units}
 use Rattle.h265_model.specs.ParamSets.{vps_fields, sps_fields, pps_fields_of, set_units, read_sets}
-use Rattle.h265_model.specs.Stream.{order_count}
+use Rattle.h265_model.specs.Stream.{order_count, nal_header}
 use Rattle.h265_model.specs.Decode.{Decoded}
 use Rattle.h265_model.specs.ExtraStream.{has_segments, extra_piece, extra_pieces_after, extra_pieces, extra_stream}
 use Rattle.h265_model.specs.Decode.{Stand, Begun, at_first, at_end, step, shown, at_number, read_units, sets_or_number, decode}
@@ -21,6 +21,11 @@ use Rattle.h265_laws.proofs.ParamLaws.{set_unit_is}
 use Rattle.h265_laws.proofs.StreamLaw.{IsFollowing, decoded_as, units_found}
 
 -- ---- one NAL unit
+
+-- a picture's header has two bytes
+pub two_bytes : (idr : Bool) → (first second : ℕ) × (0 < second) × (nal_header idr ≡ first ∷ second ∷ [])
+two_bytes true = (0x28, 1, omega arith, refl)
+two_bytes false = (0x02, 1, omega arith, refl)
 
 -- a NAL unit that is read, and then others
 pub one_step : (size : Size) (segments : Bool) (n : ℕ) (stand after : Stand) (unit : NalUnit) (rest : List NalUnit) → step size segments stand unit ≡ Some after

@@ -16,6 +16,7 @@ use Rattle.h265_model.specs.Tree.{Source, Walk, walk_on, and_walk, quarters, cod
 use Rattle.h265_model.specs.Slice.{contexts_at, row_code}
 use Rattle.h265_model.specs.Motion.{Moving, leaves, still, still_kind, kind_as_coded, leaf_as_coded, as_coded, coded_after}
 use Rattle.h265_model.specs.Walks.{UnitItems, still_unit, unit_of_kind, move_unit, UnitWalk, then_walk, walk_and, quarters_of, nothing_of, one_of, is_next_leaf, walk_of, ctu_items_of, coded_first, ctu_with_end, ctus_items_of, row_items_of, contexts_of, code_of}
+use Rattle.stream_laws.proofs.OldTree.{leaves-append}
 use Rattle.unit_laws.specs.Laws.{EachRowIsStill}
 
 -- ---- leaves and units
@@ -27,10 +28,6 @@ kind_still (Intra mode) = refl
 
 pub leaf_still : (leaf : Leaf) → leaf_as_coded (still leaf) ≡ leaf
 leaf_still leaf = ap (λ (k : Kind). leaf_with leaf.x leaf.y leaf.log2 k) (kind_still leaf.kind)
-
-leaves-append : (a b : List Moving) → leaves (a ++ b) ≡ leaves a ++ leaves b
-leaves-append [] b = refl
-leaves-append (u ∷ a) b = ap (λ (l : List Leaf). u.leaf ∷ l) (leaves-append a b)
 
 -- what a unit writes of a leaf that doesn't move
 abbrev pub WritesLeaves : SliceKind → Source → UnitItems → Type 0

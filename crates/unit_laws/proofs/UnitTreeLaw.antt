@@ -6,7 +6,6 @@ use Rattle.h265_model.specs.declared.Place.TheVariants.{Context}
 use Rattle.h265_model.specs.declared.Item.{Item}
 use Rattle.h265_model.specs.declared.leaf.SliceKind.{SliceKind}
 use Rattle.h265_model.specs.declared.leaf.SliceKind.TheVariants.{I, P}
-use Rattle.h265_model.specs.declared.leaf.Leaf.{Leaf}
 use Rattle.h265_model.specs.declared.moves.MoveLeaf.{MoveLeaf}
 use Rattle.h265_model.specs.declared.moves.MoveKind.{MoveKind}
 use Rattle.h265_model.specs.declared.moves.MoveKind.TheVariants as moves
@@ -22,6 +21,7 @@ use Rattle.h265_model.proofs.ListParts.{all_append}
 use Rattle.h265_laws.proofs.Parts.{BeginsWithBin}
 use Rattle.h265_laws.proofs.Reading.{reads_as, reads_bin, reads_bind, reads_map, reads_give}
 use Rattle.h265_laws.proofs.TreeLaw.{begins-append, depth_side}
+use Rattle.stream_laws.proofs.OldTree.{leaves-append}
 use Rattle.unit_laws.specs.Laws.{IsShort, AreShort, CanStand, CanStandAll, unit_content, reads_after, IsOneUnit, AreFourParts, IsUnitTree, EachUnitTreeIsRead}
 use Rattle.unit_laws.proofs.UnitLaw.{units_are_read, merge_short}
 
@@ -54,10 +54,6 @@ after_reads source before (u ∷ us) =
 pub record AreFit (units : List Moving) : Type 0 where
   pub modes : AreModes (leaves units)
   pub short : AreShort units
-
-pub leaves-append : (a b : List Moving) → leaves (a ++ b) ≡ leaves a ++ leaves b
-leaves-append [] b = refl
-leaves-append (u ∷ a) b = ap (λ (l : List Leaf). u.leaf ∷ l) (leaves-append a b)
 
 fit_one : (kind : SliceKind) (size : Size) (before : List Moving) (u : MoveLeaf) → IsShort (merge before u.x u.y u.log2) → CanStand kind size before u.x u.y u.log2 u.kind → AreFit before → AreFit (before ++ as_coded before u ∷ [])
 fit_one kind size before u hm c f = record {
