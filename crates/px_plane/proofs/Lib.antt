@@ -4,3 +4,4 @@ pub mod Shown
 pub mod Painted
 pub mod Tiles
 pub mod Blocks
+pub mod Squares
