@@ -1,5 +1,5 @@
 -- What is kept of the motion of a picture's units, by blocks of 8x8.
-use Rattle.std.specs.Prelude.{◌≡◌, ◌<◌, ℕ, zero, suc, ◌+◌, ◌*◌, ◌/◌, ◌^◌, Bool, ◌&&◌, List, length, nat_le, nat_lt, slice_index_or, Option, Some, None, IsTrue, if◌then◌else◌}
+use Rattle.std.specs.Prelude.{◌≡◌, ◌<◌, ℕ, zero, suc, ◌+◌, ◌*◌, ◌/◌, Bool, ◌&&◌, List, length, nat_le, nat_lt, slice_index_or, Option, Some, None, IsTrue, if◌then◌else◌}
 use Rattle.std.specs.List.{find}
 use Rattle.std.specs.Option.{option_or}
 use Rattle.h265_model.specs.declared.moves.Vector.{Vector}

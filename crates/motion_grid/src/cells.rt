@@ -11,6 +11,16 @@ pub(crate) struct Cell {
     pub vector: Option<Vector>,
 }
 
+/// Empties cells.
+pub(crate) fn empty(cells: &mut [Option<Cell>])
+    ensures each { (i : ℕ) → slice_index_or cells.new i None ≡ None }
+    ensures long { length cells.new ≡ length cells.old }
+{
+    for i in 0..cells.len() {
+        cells[i] = None;
+    }
+}
+
 // Fills the empty ones of some cells.
 fn fill_row(row: &mut [Option<Cell>], cell: Cell)
     ensures { (i : ℕ) → i < length row.old → slice_index_or row.new i None ≡ option_or (slice_index_or row.old i None) (Some cell) }

@@ -4,9 +4,9 @@ ghost use Rattle.h265_model.specs.declared.leaf.Kind.{Kind};
 ghost use Rattle.h265_model.specs.Plain.{coded};
 ghost use Rattle.h265_model.specs.Motion as motion;
 ghost use Rattle.h265_model.specs.Motion.{Moving};
-ghost use Rattle.motion_grid.specs.Cells.{blocks, kept_before, HasMotion, coded_unit};
+ghost use Rattle.motion_grid.specs.Cells.{blocks, cell_at, kept_before, HasMotion, coded_unit};
 
-use crate::cells::{Cell, fill_square};
+use crate::cells::{Cell, empty, fill_square};
 use crate::neighbours::{NO_MOTION, two_of};
 use h265_model::{NoMemory, Vector};
 use px_plane::Size;
@@ -42,6 +42,20 @@ fn blocks_of(side: u32) -> usize
     ((side + 7) / 8) as usize
 }
 
+// The side of a block.
+fn side(log2: u32) -> u32
+    requires low { 3 ≤ log2 }
+    requires high { log2 ≤ 5 }
+    ensures value { result ≡ 2 ^ log2 }
+    ensures few { result ≤ 32 }
+{
+    match log2 {
+        3 => 8,
+        4 => 16,
+        _ => 32,
+    }
+}
+
 impl MotionGrid {
     /// A grid for a picture of this size. No unit is set.
     ///
@@ -62,7 +76,7 @@ impl MotionGrid {
         ensures size { self.new.size ≡ self.old.size }
         ensures empty { HasMotion self.new [] }
     {
-        self.cells.fill(None);
+        empty(&mut self.cells);
     }
 
     /// Sets the unit of side 2^log2 at (x, y), with the vector by which it was copied, or `None` where it wasn't. It lies in the coded picture, at
@@ -84,17 +98,53 @@ impl MotionGrid {
         fill_square(&mut self.cells, columns, left, top, side, Cell { vector });
     }
 
+    // What is kept of the block with a place.
+    fn cell(&self, x: u32, y: u32) -> Option<Cell>
+        ensures { result ≡ cell_at self.now x y }
+    {
+        let (column, row) = ((x / 8) as usize, (y / 8) as usize);
+        let columns = blocks_of(self.size.w());
+        if column >= columns {
+            return None;
+        }
+        let rows = blocks_of(self.size.h());
+        if row >= rows {
+            return None;
+        }
+        self.cells[row * columns + column]
+    }
+
     // The vector at the place before (x, y) in both directions (6.4.2).
-    #[inline(always)]
     fn before(&self, x: u32, y: u32) -> Option<Vector>
         ensures { result ≡ kept_before self.now x y }
     {
-        if x == 0 || y == 0 || (x - 1) / 8 >= (self.size.w() + 7) / 8 || (y - 1) / 8 >= (self.size.h() + 7) / 8 {
+        if x == 0 || y == 0 {
             return None;
         }
-        let columns = blocks_of(self.size.w());
-        let cell = self.cells[((y - 1) / 8) as usize * columns + ((x - 1) / 8) as usize];
-        cell?.vector
+        self.cell(x - 1, y - 1)?.vector
+    }
+
+    // The vector of one of the five neighbours of a block of side `n`, the first that has one.
+    fn neighbour(&self, x: u32, y: u32, n: u32) -> Option<Vector>
+        requires x { x < 4096 }
+        requires y { y < 4096 }
+        requires n { n ≤ 32 }
+        ensures { result ≡ motion.first_vector (kept_before self.now x (y + n) ∷ kept_before self.now (x + n) y ∷ kept_before self.now (x + n + 1) y
+            ∷ kept_before self.now x (y + n + 1) ∷ kept_before self.now x y ∷ []) }
+    {
+        let left = self.before(x, y + n);
+        if left.is_some() {
+            return left;
+        }
+        let above = self.before(x + n, y);
+        if above.is_some() {
+            return above;
+        }
+        let right = self.before(x + n + 1, y);
+        if right.is_some() {
+            return right;
+        }
+        self.before(x, y + n + 1).or(self.before(x, y))
     }
 
     /// The merge vector of a block of side 2^log2 at (x, y): that of the one merging candidate (8.5.3.2.2).
@@ -105,13 +155,9 @@ impl MotionGrid {
         requires down { y < coded self.now.size.h }
         ensures { (units : List Moving) → HasMotion self.now units → result ≡ motion.merge units x y log2 }
     {
-        let n = 1 << log2;
-        self.before(x, y + n)
-            .or(self.before(x + n, y))
-            .or(self.before(x + n + 1, y))
-            .or(self.before(x, y + n + 1))
-            .or(self.before(x, y))
-            .unwrap_or(NO_MOTION)
+        let n = side(log2);
+        let (_w, _h) = (self.size.w(), self.size.h());
+        self.neighbour(x, y, n).unwrap_or(NO_MOTION)
     }
 
     /// The two motion vector predictors of a block of side 2^log2 at (x, y) (8.5.3.2.6 and 8.5.3.2.7).
@@ -122,9 +168,13 @@ impl MotionGrid {
         requires down { y < coded self.now.size.h }
         ensures { (units : List Moving) → HasMotion self.now units → result ≡ motion.predictors units x y log2 }
     {
-        let n = 1 << log2;
+        let n = side(log2);
+        let (_w, _h) = (self.size.w(), self.size.h());
         let left = self.before(x, y + n + 1).or(self.before(x, y + n));
-        let above = self.before(x + n + 1, y).or(self.before(x + n, y)).or(self.before(x, y));
+        let above = self
+            .before(x + n + 1, y)
+            .or(self.before(x + n, y))
+            .or(self.before(x, y));
         two_of(left, above)
     }
 }
