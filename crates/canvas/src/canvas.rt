@@ -2,15 +2,15 @@
 ghost use Rattle.std.specs.Prelude.{◌≡◌, ◌<◌, ◌≤◌, ◌+◌, ◌*◌, ◌%◌, ◌^◌, ◌++◌, ◌∷◌, [], List, length, IsTrue, IfOk};
 ghost use Rattle.h265_model.specs.Plain.{Picture as ThePicture, coded};
 ghost use Rattle.h265_model.specs.Tree.{thirds};
-ghost use Rattle.h265_model.specs.Motion as motion;
 ghost use Rattle.h265_model.specs.Motion.{has_source};
 ghost use Rattle.h265_model.specs.MotionTree.{ReadUnit, Copied, Moved, Samples, Levels};
 ghost use Rattle.h265_model.specs.MotionRebuild.{rebuild};
 ghost use Rattle.px_plane.specs.Planes.{Planes, black, planes_of, picture_of, Stores};
 ghost use Rattle.leaf_sink.specs.Units.{unit, HasAvailable, AreResiduals, levels_of};
-ghost use Rattle.canvas.specs.Drawing.{Draws, AreWhole, AreStill, IsCopied};
+ghost use Rattle.canvas.specs.Drawing.{Draws, AreWhole, AreStill};
 
 use crate::predicted::draw_component;
+use crate::side::{area, side};
 use crate::source::moved;
 use h265_model::{NoMemory, Vector};
 use leaf_sink::{LeafSink, Residuals};
@@ -100,10 +100,14 @@ impl Canvas {
         requires across { x + 2 ^ log2 ≤ coded self.old.last.size.w }
         requires down { y + 2 ^ log2 ≤ coded self.old.last.size.h }
         requires source { IsTrue (has_source self.old.last.size x y log2 vector) }
-        ensures { IsCopied self.old self.new x y log2 vector }
+        ensures last { self.new.last ≡ self.old.last }
+        ensures copied { (units : List ReadUnit) → Draws self.old units → Draws self.new (units ++ unit x y log2 (Copied vector) ∷ []) }
+        ensures moved { (units : List ReadUnit) → Draws self.old units → Draws self.new (units ++ unit x y log2 (Moved vector) ∷ []) }
     {
+        let n = side(log2);
+        let _size = self.last.size();
         let (from_x, from_y) = (moved(x, vector.x), moved(y, vector.y));
-        self.drawn.copy_block(&self.last, from_x, from_y, x, y, 1 << log2);
+        self.drawn.copy_block(&self.last, from_x, from_y, x, y, n);
     }
 }
 
@@ -121,18 +125,17 @@ impl LeafSink for Canvas {
     }
 
     fn samples(&mut self, x: u32, y: u32, log2: u32, samples: &[u8]) {
-        let n = 1u32 << log2;
-        let area = (n * n) as usize;
+        let n = side(log2);
+        let area = area(log2);
         self.drawn.put_block(0, x, y, n, &samples[..area]);
         self.drawn.put_block(1, x, y, n, &samples[area..2 * area]);
-        self.drawn.put_block(2, x, y, n, &samples[2 * area..]);
+        self.drawn.put_block(2, x, y, n, &samples[2 * area..3 * area]);
     }
 
     fn levels(&mut self, x: u32, y: u32, log2: u32, mode: u32, residuals: Residuals) {
-        let area = 1usize << (2 * log2);
-        let block = &mut self.block[..area];
-        draw_component(&mut self.drawn, block, 0, x, y, log2, mode, residuals.luma);
-        draw_component(&mut self.drawn, block, 1, x, y, log2, mode, residuals.cb);
-        draw_component(&mut self.drawn, block, 2, x, y, log2, mode, residuals.cr);
+        let Canvas { drawn, block, .. } = self;
+        draw_component(drawn, block, 0, x, y, log2, mode, residuals.luma);
+        draw_component(drawn, block, 1, x, y, log2, mode, residuals.cb);
+        draw_component(drawn, block, 2, x, y, log2, mode, residuals.cr);
     }
 }

@@ -4,6 +4,7 @@
 mod canvas;
 mod levels;
 mod predicted;
+mod side;
 mod source;
 
 pub use canvas::Canvas;

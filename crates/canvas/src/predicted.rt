@@ -10,6 +10,7 @@ ghost use Rattle.leaf_sink.specs.Units.{IsLong, levels_or};
 ghost use Rattle.canvas.specs.Drawing.{drawn_block};
 
 use crate::levels::add_levels;
+use crate::side::{area, side};
 use intra_predict::predict;
 use intra_refs::{filter, filtered, refs};
 use px_plane::Picture;
@@ -43,21 +44,27 @@ fn predict_block(
     }
 }
 
+// Samples are bytes.
+fn bytes_fit(samples: &[u8])
+    ensures { AreBytes samples.now }
+{}
+
 // Adds the levels of a component, if it has any.
 fn add_residual(log2: u32, samples: &mut [u8], levels: Option<&[i16]>)
     requires samples { length samples.old ≡ 2 ^ log2 * 2 ^ log2 }
     requires levels { IsLong log2 (option_copied levels) }
     ensures { samples.new ≡ sums samples.old (levels_or log2 (option_copied levels.entry)) }
 {
-    if let Some(levels) = levels {
-        add_levels(samples, levels);
+    match levels {
+        Some(levels) => add_levels(samples, levels),
+        None => bytes_fit(samples),
     }
 }
 
-/// Draws a component of a block from its prediction and its levels (8.4.4.1). `block` has room for the samples.
+/// Draws a component of a block from its prediction and its levels (8.4.4.1). `block` is room for the samples.
 pub(crate) fn draw_component(
     drawn: &mut Picture,
-    block: &mut [u8],
+    block: &mut [u8; 1024],
     component: u32,
     x: u32,
     y: u32,
@@ -73,14 +80,14 @@ pub(crate) fn draw_component(
     requires across { x + 2 ^ log2 ≤ coded drawn.old.size.w }
     requires down { y + 2 ^ log2 ≤ coded drawn.old.size.h }
     requires mode { mode < 35 }
-    requires block { length block.old ≡ 2 ^ log2 * 2 ^ log2 }
     requires levels { IsLong log2 (option_copied levels) }
     ensures size { drawn.new.size ≡ drawn.old.size }
     ensures whole { IsPicture drawn.new }
     ensures drawn { Stores drawn.new (with_square (picture_of drawn.old) component x y (2 ^ log2)
         (drawn_block drawn.old.size (picture_of drawn.old) mode component x y log2 (option_copied levels.entry))) }
 {
+    let block = &mut block[..area(log2)];
     predict_block(drawn, component, x, y, log2, mode, block);
     add_residual(log2, block, levels);
-    drawn.put_block(component, x, y, 1 << log2, block);
+    drawn.put_block(component, x, y, side(log2), block);
 }
