@@ -1,6 +1,6 @@
 -- The three components of a unit, drawn one after another.
-use Rattle.std.proofs.Common.{◌≡◌, refl, sym, ◌∙◌, ap, subst, ℕ, zero, suc, ◌+◌, ◌*◌, ◌-◌, ◌^◌, ◌<◌, ◌≤◌, List, [], ◌∷◌, Bool, true, false, cond, get_or, take, drop, arith}
-use Rattle.std.specs.Prelude.{◌&&◌, ◌==◌, Option, Some, None, ℤ}
+use Rattle.std.proofs.Common.{◌≡◌, refl, sym, ◌∙◌, ap, subst, ℕ, zero, suc, ◌+◌, ◌*◌, ◌-◌, ◌^◌, ◌<◌, List, [], ◌∷◌, Bool, true, cond, get_or, take, drop, arith}
+use Rattle.std.specs.Prelude.{Option, ℤ}
 use Rattle.h265_model.specs.Plain.{Size, Picture, coded}
 use Rattle.h265_model.specs.Predict.{is_inside, is_available, prediction}
 use Rattle.h265_model.specs.Raster.{blank}

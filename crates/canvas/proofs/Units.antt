@@ -1,15 +1,15 @@
 -- One unit more is drawn.
-use Rattle.std.proofs.Common.{◌≡◌, refl, sym, ◌∙◌, ap, subst, ℕ, zero, suc, ◌+◌, ◌*◌, ◌-◌, ◌^◌, ◌<◌, ◌≤◌, List, [], ◌∷◌, ◌++◌, Bool, true, false, cond, ◌||◌, ⊎_elim, get_or, map, arith}
-use Rattle.std.specs.Prelude.{◌&&◌, nat_le, nat_lt, IsTrue, Option, None, ℤ, pos, negsuc}
+use Rattle.std.proofs.Common.{◌≡◌, refl, sym, ◌∙◌, ap, subst, ℕ, ◌+◌, ◌*◌, ◌-◌, ◌^◌, ◌<◌, ◌≤◌, List, [], ◌∷◌, ◌++◌, Bool, true, false, cond, ◌||◌, ⊎_elim, get_or, map, arith}
+use Rattle.std.specs.Prelude.{IsTrue, None, ℤ, pos, negsuc}
 use Rattle.std.specs.List.{list_any}
-use Rattle.std.proofs.lemmas.Bool.{and_parts, and_from, lt-ltb, ltb-true, leb-true, or_cases}
+use Rattle.std.proofs.lemmas.Bool.{and_parts, ltb-true, leb-true, or_cases}
 use Rattle.std.proofs.lemmas.List.Folds.{list_any-append}
 use Rattle.h265_model.specs.declared.leaf.Leaf.{Leaf}
 use Rattle.h265_model.specs.declared.moves.Vector.{Vector}
 use Rattle.h265_model.specs.Plain.{Size, Picture, coded}
-use Rattle.h265_model.specs.Predict.{is_inside, square}
+use Rattle.h265_model.specs.Predict.{is_inside}
 use Rattle.h265_model.specs.Settings.{is_size}
-use Rattle.h265_model.specs.Tree.{covers, leaf_side}
+use Rattle.h265_model.specs.Tree.{covers}
 use Rattle.h265_model.specs.Raster.{blank, planes}
 use Rattle.h265_model.specs.Rebuild.{with_block}
 use Rattle.h265_laws.proofs.Coverage.{inside_parts, inside_from}

@@ -8,3 +8,6 @@ mod neighbours;
 
 pub use grid::MotionGrid;
 pub use h265_model::Vector;
+
+#[cfg(test)]
+mod tests;

@@ -1,4 +1,4 @@
-use Rattle.std.proofs.Common.{◌≡◌, arith, ◌∙◌, sym}
+use Rattle.std.proofs.Common.{arith}
 use Rattle.canvas.proofs.Sums.{sums_all}
 use Rattle.canvas.proofs.levels.add_levels.Goals as goal
 

@@ -1,11 +1,10 @@
-use Rattle.std.proofs.Common.{◌≡◌, refl, ap, sym, subst, ◌∙◌, ℕ, ◌+◌, ◌^◌, ◌≤◌, rules, w32, to_z, of_z}
+use Rattle.std.proofs.Common.{◌≡◌, refl, ap, sym, subst, ◌∙◌, ◌+◌, ◌^◌, ◌≤◌, rules, w32, to_z, of_z}
 use Rattle.std.specs.Prelude.{IsTrue, ℤ}
 use Rattle.std.proofs.lemmas.Int.{to_z-of_z}
 use Rattle.h265_model.specs.Motion.{has_source, moved}
 use Rattle.h265_model.specs.MotionTree.{Copied, Moved}
 use Rattle.h265_model.specs.Plain.{Size, coded}
 use Rattle.h265_model.specs.Settings.{is_size}
-use Rattle.px_plane.specs.Planes.{Planes}
 use Rattle.leaf_sink.specs.Units.{unit}
 use Rattle.canvas.specs.Drawing.{Pictures, Draws, CanMove, IsCopied}
 use Rattle.canvas.proofs.Units.{source_x, source_y, copied_as, copy_drawn, unit_drawn, copied_by, moved_by}

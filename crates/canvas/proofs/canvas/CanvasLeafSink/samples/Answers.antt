@@ -1,11 +1,8 @@
-use Rattle.std.proofs.Common.{◌≡◌, refl, ap, sym, subst, ◌∙◌, ℕ, ◌+◌, ◌*◌, ◌-◌, ◌^◌, ◌≤◌, arith, List, take, drop}
-use Rattle.h265_model.specs.Plain.{Size}
+use Rattle.std.proofs.Common.{◌≡◌, refl, ap, sym, subst, ◌∙◌, ℕ, ◌+◌, ◌*◌, ◌-◌, ◌^◌, arith, List, take, drop}
 use Rattle.h265_model.specs.Tree.{thirds}
 use Rattle.h265_model.specs.MotionTree.{ReadUnit, Samples}
 use Rattle.h265_model.specs.MotionRebuild.{with_units}
 use Rattle.h265_model.specs.Raster.{blank}
-use Rattle.px_plane.specs.Planes.{Planes, Stores, picture_of}
-use Rattle.px_plane.specs.Rows.{with_square}
 use Rattle.leaf_sink.specs.Units.{unit}
 use Rattle.canvas.specs.Drawing.{Pictures, Draws}
 use Rattle.canvas.proofs.Units.{unit_drawn}
