@@ -5,3 +5,4 @@ pub mod Painted
 pub mod Copies
 pub mod Tiles
 pub mod Blocks
+pub mod Squares

@@ -1,5 +1,5 @@
 -- Painting, as the raster of one more line.
-use Rattle.std.proofs.Common.{◌≡◌, refl, sym, ◌∙◌, ap, ℕ, zero, suc, ◌+◌, ◌*◌, ◌<◌, Bool, true, false, List, [], ◌∷◌, ◌++◌, cond, length, get_or, arith}
+use Rattle.std.proofs.Common.{◌≡◌, refl, sym, ◌∙◌, ap, ℕ, zero, suc, ◌+◌, ◌*◌, ◌<◌, Bool, true, false, List, cond, length, get_or, arith}
 use Rattle.std.specs.Prelude.{◌&&◌, nat_lt}
 use Rattle.h265_model.specs.Plain.{Size, Picture, coded, place_values}
 use Rattle.h265_model.specs.declared.rect.Rect.{Rect}
@@ -12,7 +12,7 @@ use Rattle.px_plane.proofs.Shown.{picture_at, coded_at, stores_from_planes, plan
 
 -- ---- planes
 
-plane_put : (old new : Planes) (stride : ℕ) (part : Sides) (f : ℕ → ℕ → ℕ) (c : ℕ)
+pub plane_put : (old new : Planes) (stride : ℕ) (part : Sides) (f : ℕ → ℕ → ℕ) (c : ℕ)
     → new.size ≡ old.size → stride ≡ coded old.size.w → IsPut (plane_of old c) (plane_of new c) stride part f
     → (x y : ℕ) → x < coded old.size.w → y < coded old.size.h → picture_of new c x y ≡ cond (is_in part x y) (f x y) (picture_of old c x y)
 plane_put old new stride part f c same wide put x y hx hy =

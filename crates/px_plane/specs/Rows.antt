@@ -1,5 +1,5 @@
 -- Parts of planes, and what a write to one leaves.
-use Rattle.std.specs.Prelude.{◌≡◌, ◌<◌, ◌≤◌, ℕ, ◌+◌, ◌*◌, ◌-◌, Bool, ◌&&◌, List, nat_le, nat_lt, slice_index, if◌then◌else◌}
+use Rattle.std.specs.Prelude.{◌≡◌, ◌<◌, ◌≤◌, ℕ, ◌+◌, ◌*◌, ◌-◌, Bool, ◌&&◌, List, ◌==◌, nat_le, nat_lt, slice_index, if◌then◌else◌}
 use Rattle.h265_model.specs.Plain.{Size, Picture, coded}
 use Rattle.h265_model.specs.declared.rect.Rect.{Rect}
 use Rattle.px_plane.specs.declared.plane.Sides.{Sides}
@@ -23,6 +23,10 @@ IsPut before after stride part f = IsPutBetween before after stride part.left pa
 -- the sample of a place in a part of a tile, whose samples are those of G, B and R, each in rows of 32
 abbrev pub sample_at : Sides → List ℕ → Picture
 sample_at part samples c x y = slice_index samples (c * 1024 + ((y - part.top) * 32 + (x - part.left)))
+
+-- the sample of a place in a part, whose samples stand in rows
+abbrev pub row_sample : Sides → List ℕ → ℕ → ℕ → ℕ
+row_sample part samples x y = slice_index samples ((y - part.top) * (part.right - part.left) + (x - part.left))
 
 -- the part lies in the coded picture
 pub record IsWithin (size : Size) (part : Sides) : Type 0 where
@@ -62,3 +66,19 @@ pub record IsPutInto (old new : Planes) (part : Sides) (f : Picture) : Type 0 wh
   pub size : new.size ≡ old.size
   pub whole : IsPicture new
   pub each : (c x y : ℕ) → c < 3 → x < coded old.size.w → y < coded old.size.h → picture_of new c x y ≡ (if is_in part x y then f c x y else picture_of old c x y)
+
+-- ---- squares
+
+-- the place is in the square of side n at (left, top)
+abbrev pub is_in_square : ℕ → ℕ → ℕ → ℕ → ℕ → Bool
+is_in_square left top n x y = nat_le left x && nat_lt x (left + n) && nat_le top y && nat_lt y (top + n)
+
+-- a picture with the samples of one component in a square, in rows from the top
+abbrev pub with_square : Picture → ℕ → ℕ → ℕ → ℕ → List ℕ → Picture
+with_square before component left top n samples c x y =
+    if c == component && is_in_square left top n x y then slice_index samples ((y - top) * n + (x - left)) else before c x y
+
+-- a picture with a square of another one
+abbrev pub with_copy : Picture → Picture → ℕ → ℕ → ℕ → ℕ → ℕ → Picture
+with_copy before other from_x from_y left top n c x y =
+    if is_in_square left top n x y then other c (from_x + (x - left)) (from_y + (y - top)) else before c x y

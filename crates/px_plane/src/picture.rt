@@ -8,11 +8,11 @@ ghost use Rattle.h265_model.specs.Tiles.{tile_count, job_for};
 ghost use Rattle.px_plane.specs.Planes.{black, picture_of, plane_of, covers, filled, blitted, copies_to, copied, pixel_at, IsPicture, Stores, Shows, ShowsColours, repainted, recopied};
 ghost use Rattle.px_plane.specs.Blocks.{same_places, compared, IsSameBlock, IsRowPart};
 ghost use Rattle.px_plane.specs.Tiles.{laid, IsJobOf, DiffersOnlyIn, IsTilePart, IsTileLaid};
-ghost use Rattle.px_plane.specs.Rows.{IsWithin, IsPartOf, IsCopyOf, IsPutInto, sample_at};
+ghost use Rattle.px_plane.specs.Rows.{IsWithin, IsPartOf, IsCopyOf, IsPutInto, sample_at, with_square, with_copy};
 
 use crate::clip::Clip;
 use crate::compare::{RowPart, equal_front};
-use crate::plane::{Sides, blit_plane, copy_plane, fill_plane, lay_plane};
+use crate::plane::{Sides, blit_plane, copy_from_plane, copy_plane, fill_plane, lay_plane, put_plane};
 use crate::{Job, Rect, Rgb, Size, Steps};
 use h265_model::NoMemory;
 use std::alloc::Global;
@@ -368,5 +368,43 @@ impl Picture {
             steps.ticks(n as u64);
         }
         true
+    }
+
+    /// Puts samples of a component (0 for G, 1 for B, 2 for R) into the square of side `n` at (x, y) of the coded picture, in rows from the top.
+    pub fn put_block(&mut self, component: u32, x: u32, y: u32, n: u32, samples: &[u8])
+        requires component { component < 3 }
+        requires across { x + n ≤ coded self.old.size.w }
+        requires down { y + n ≤ coded self.old.size.h }
+        requires samples { length samples.now ≡ n * n }
+        ensures size { self.new.size ≡ self.old.size }
+        ensures whole { IsPicture self.new }
+        ensures put { Stores self.new (with_square (picture_of self.old) component x y n samples.now) }
+    {
+        let part = Sides::of(Rect { x, y, w: n, h: n });
+        let stride = coded_side(self.w) as usize;
+        match component {
+            0 => put_plane(&mut self.g, stride, part, samples),
+            1 => put_plane(&mut self.b, stride, part, samples),
+            _ => put_plane(&mut self.r, stride, part, samples),
+        }
+    }
+
+    /// Copies the square of side `n` at (from_x, from_y) of another picture of the same size to (x, y).
+    pub fn copy_block(&mut self, other: &Picture, from_x: u32, from_y: u32, x: u32, y: u32, n: u32)
+        requires sizes { other.now.size ≡ self.old.size }
+        requires from_across { from_x + n ≤ coded self.old.size.w }
+        requires from_down { from_y + n ≤ coded self.old.size.h }
+        requires across { x + n ≤ coded self.old.size.w }
+        requires down { y + n ≤ coded self.old.size.h }
+        ensures size { self.new.size ≡ self.old.size }
+        ensures whole { IsPicture self.new }
+        ensures copied { Stores self.new (with_copy (picture_of self.old) (picture_of other.now) from_x from_y x y n) }
+    {
+        let part = Sides::of(Rect { x, y, w: n, h: n });
+        let stride = coded_side(self.w) as usize;
+        let (from_x, from_y) = (from_x as usize, from_y as usize);
+        copy_from_plane(&mut self.g, other.plane(0), stride, part, from_x, from_y);
+        copy_from_plane(&mut self.b, other.plane(1), stride, part, from_x, from_y);
+        copy_from_plane(&mut self.r, other.plane(2), stride, part, from_x, from_y);
     }
 }

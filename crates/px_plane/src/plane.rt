@@ -3,7 +3,7 @@ ghost use Rattle.std.specs.Prelude.{◌≡◌, ℕ, ◌+◌, ◌*◌, ◌-◌, �
 ghost use Rattle.h265_model.specs.Raster.{black};
 ghost use Rattle.h265_model.specs.Raster.{component};
 ghost use Rattle.px_plane.specs.Planes.{pixel_at};
-ghost use Rattle.px_plane.specs.Rows.{IsPut, IsPlaced, sample_at, sample_from};
+ghost use Rattle.px_plane.specs.Rows.{IsPut, IsPlaced, sample_at, sample_from, row_sample};
 
 use crate::{Rect, Rgb};
 
@@ -205,5 +205,61 @@ pub(crate) fn copy_plane(plane: &mut [u8], stride: usize, part: Sides, from_x: u
         copy_from_below(plane, stride, part, from_x, from_y);
     } else {
         copy_from_above(plane, stride, part, from_x, from_y);
+    }
+}
+
+/// Gives a part the samples that stand in rows as wide as it.
+pub(crate) fn put_plane(plane: &mut [u8], stride: usize, part: Sides, samples: &[u8])
+    requires across { part.left ≤ part.right }
+    requires wide { part.right ≤ stride }
+    requires down { part.top ≤ part.bottom }
+    requires tall { part.bottom * stride ≤ length plane.old }
+    requires samples { length samples.now ≡ (part.right - part.left) * (part.bottom - part.top) }
+    ensures { IsPut plane.old plane.new stride part (row_sample part samples.now) }
+{
+    let Sides {
+        left,
+        right,
+        top,
+        bottom,
+    } = part;
+    let n = right - left;
+    for y in top..bottom {
+        let at = y * stride;
+        let from = (y - top) * n;
+        plane[at + left..at + right].copy_from_slice(&samples[from..from + n]);
+    }
+}
+
+/// Gives a part the samples of another plane with rows of `stride`, from (from_x, from_y) on.
+pub(crate) fn copy_from_plane(
+    plane: &mut [u8],
+    other: &[u8],
+    stride: usize,
+    part: Sides,
+    from_x: usize,
+    from_y: usize,
+)
+    requires across { part.left ≤ part.right }
+    requires wide { part.right ≤ stride }
+    requires down { part.top ≤ part.bottom }
+    requires tall { part.bottom * stride ≤ length plane.old }
+    requires as_long { length other.now ≡ length plane.old }
+    requires low { from_y + (part.bottom - part.top) ≤ 4096 }
+    requires from_wide { from_x + (part.right - part.left) ≤ stride }
+    requires from_tall { (from_y + (part.bottom - part.top)) * stride ≤ length other.now }
+    ensures { IsPut plane.old plane.new stride part (λ x y. slice_index other.now ((from_y + (y - part.top)) * stride + (from_x + (x - part.left)))) }
+{
+    let Sides {
+        left,
+        right,
+        top,
+        bottom,
+    } = part;
+    let n = right - left;
+    for y in top..bottom {
+        let at = y * stride;
+        let from = (from_y + (y - top)) * stride + from_x;
+        plane[at + left..at + right].copy_from_slice(&other[from..from + n]);
     }
 }

@@ -1,0 +1,140 @@
+//! Two pictures, of which one is drawn.
+ghost use Rattle.std.specs.Prelude.{◌≡◌, ◌<◌, ◌≤◌, ◌+◌, ◌*◌, ◌%◌, ◌^◌, ◌++◌, ◌∷◌, [], List, length, IsTrue, IfOk};
+ghost use Rattle.h265_model.specs.Plain.{Picture as ThePicture, coded};
+ghost use Rattle.h265_model.specs.Tree.{thirds, ReadUnit, Copied, Moved, Samples, Levels};
+ghost use Rattle.h265_model.specs.Motion.{has_source};
+ghost use Rattle.h265_model.specs.Rebuild.{rebuild};
+ghost use Rattle.px_plane.specs.Planes.{Planes, black, planes_of, picture_of, Stores};
+ghost use Rattle.leaf_sink.specs.Units.{unit, HasAvailable, AreResiduals, levels_of};
+ghost use Rattle.canvas.specs.Drawing.{Draws, AreWhole, AreStill};
+
+use crate::predicted::draw_component;
+use crate::side::{area, side};
+use crate::source::moved;
+use h265_model::{NoMemory, Vector};
+use leaf_sink::{LeafSink, Residuals};
+use px_plane::{Picture, Size};
+use std::alloc::Global;
+use std::marker::Model;
+
+/// The last picture, and the one that is drawn from its coding units as they are read.
+///
+/// It stands for the units that were taken since the picture was begun: wherever they are, the picture that is drawn has their samples. Elsewhere
+/// it may have any. No call takes memory but `new`, and none but `keep` changes the last picture.
+#[derive(Debug, Drop)]
+pub struct Canvas {
+    last: Picture,
+    drawn: Picture,
+    // The samples of one component of a unit.
+    block: [u8; 1024],
+}
+
+impl Model for Canvas {
+    ghost use Rattle.canvas.specs.Drawing.{Pictures, ArePictures};
+
+    ghost Value = { Pictures };
+
+    ghost view = { λ c. record { last = c.last; drawn = c.drawn } };
+
+    ghost invariant = { λ c. ArePictures (record { last = c.last; drawn = c.drawn }) };
+}
+
+impl Canvas {
+    /// A canvas for pictures of this size. The last picture is of zeros, and no unit is drawn.
+    ///
+    /// # Errors
+    ///
+    /// `NoMemory` where the allocator refuses one of the planes.
+    pub fn new(alloc: Global, size: Size) -> Result<Canvas, NoMemory>
+        ensures last { IfOk result (λ c. c.last ≡ black size) }
+        ensures empty { IfOk result (λ c. Draws c []) }
+    {
+        let last = Picture::black(alloc, size)?;
+        let drawn = Picture::black(alloc, size)?;
+        Ok(Canvas {
+            last,
+            drawn,
+            block: [0; 1024],
+        })
+    }
+
+    /// The last picture.
+    pub fn last(&self) -> &Picture
+        ensures { result.now ≡ self.now.last }
+    {
+        &self.last
+    }
+
+    /// The picture that is drawn.
+    pub fn drawn(&self) -> &Picture
+        ensures { result.now ≡ self.now.drawn }
+    {
+        &self.drawn
+    }
+
+    /// Begins a picture: none of its units is drawn.
+    pub fn begin(&mut self)
+        ensures last { self.new.last ≡ self.old.last }
+        ensures empty { Draws self.new [] }
+    {
+    }
+
+    /// Makes the picture that is drawn the last one. If its units covered it, then it is the picture that they rebuild after the last one, and where
+    /// none was copied, after any.
+    pub fn keep(&mut self)
+        ensures last { self.new.last ≡ self.old.drawn }
+        ensures drawn { self.new.drawn ≡ self.old.last }
+        ensures rebuilt { (units : List ReadUnit) → Draws self.old units → AreWhole self.old.last.size units → (before : ThePicture) → Stores self.old.last before
+            → planes_of self.new.last ≡ rebuild self.old.last.size before units }
+        ensures still { (units : List ReadUnit) → Draws self.old units → AreWhole self.old.last.size units → AreStill units → (before : ThePicture)
+            → planes_of self.new.last ≡ rebuild self.old.last.size before units }
+    {
+        std::mem::swap(&mut self.last, &mut self.drawn);
+    }
+
+    // Copies a block of the last picture.
+    fn copy(&mut self, x: u32, y: u32, log2: u32, vector: Vector)
+        requires low { 3 ≤ log2 }
+        requires high { log2 ≤ 5 }
+        requires across { x + 2 ^ log2 ≤ coded self.old.last.size.w }
+        requires down { y + 2 ^ log2 ≤ coded self.old.last.size.h }
+        requires source { IsTrue (has_source self.old.last.size x y log2 vector) }
+        ensures last { self.new.last ≡ self.old.last }
+        ensures copied { (units : List ReadUnit) → Draws self.old units → Draws self.new (units ++ unit x y log2 (Copied vector) ∷ []) }
+        ensures moved { (units : List ReadUnit) → Draws self.old units → Draws self.new (units ++ unit x y log2 (Moved vector) ∷ []) }
+    {
+        let n = side(log2);
+        let _size = self.last.size();
+        let (from_x, from_y) = (moved(x, vector.x), moved(y, vector.y));
+        self.drawn.copy_block(&self.last, from_x, from_y, x, y, n);
+    }
+}
+
+impl LeafSink for Canvas {
+    ghost last = { λ c. c.last };
+
+    ghost stands_for = { λ c units. Draws c units };
+
+    fn copied(&mut self, x: u32, y: u32, log2: u32, vector: Vector) {
+        self.copy(x, y, log2, vector);
+    }
+
+    fn moved(&mut self, x: u32, y: u32, log2: u32, vector: Vector) {
+        self.copy(x, y, log2, vector);
+    }
+
+    fn samples(&mut self, x: u32, y: u32, log2: u32, samples: &[u8]) {
+        let n = side(log2);
+        let area = area(log2);
+        self.drawn.put_block(0, x, y, n, &samples[..area]);
+        self.drawn.put_block(1, x, y, n, &samples[area..2 * area]);
+        self.drawn.put_block(2, x, y, n, &samples[2 * area..3 * area]);
+    }
+
+    fn levels(&mut self, x: u32, y: u32, log2: u32, mode: u32, residuals: Residuals) {
+        let Canvas { drawn, block, .. } = self;
+        draw_component(drawn, block, 0, x, y, log2, mode, residuals.luma);
+        draw_component(drawn, block, 1, x, y, log2, mode, residuals.cb);
+        draw_component(drawn, block, 2, x, y, log2, mode, residuals.cr);
+    }
+}

@@ -1,0 +1,9 @@
+//! What takes the coding units of a picture as they are read.
+#![tactic(auto)]
+
+mod residuals;
+mod sink;
+
+pub use h265_model::Vector;
+pub use residuals::Residuals;
+pub use sink::LeafSink;

@@ -1,0 +1,75 @@
+//! What takes coding units.
+ghost use Rattle.std.specs.Prelude.{◌≡◌, ◌<◌, ◌≤◌, ◌+◌, ◌*◌, ◌%◌, ◌^◌, ◌++◌, ◌∷◌, [], List, length, IsTrue};
+ghost use Rattle.h265_model.specs.Plain.{coded};
+ghost use Rattle.h265_model.specs.Motion.{has_source};
+ghost use Rattle.h265_model.specs.Tree.{thirds, ReadUnit, Copied, Moved, Samples, Levels};
+ghost use Rattle.px_plane.specs.Planes.{Planes};
+ghost use Rattle.leaf_sink.specs.Units.{unit, HasAvailable, AreResiduals, levels_of};
+
+use crate::Residuals;
+use h265_model::Vector;
+
+/// What takes the coding units of a picture, in the order of coding (7.3.8.5).
+///
+/// It stands for lists of units that were taken: it need not keep any. A call adds one unit to such a list, if all that is available to the unit
+/// (6.4.1) is covered by those taken before.
+pub trait LeafSink {
+    /// The picture before, which copies are made from. Its size is that of the picture whose units are taken.
+    ghost last: { Self → Planes };
+
+    /// The lists of units that it stands for.
+    ghost stands_for: { Self → List ReadUnit → Type 0 };
+
+    /// Takes a unit that is copied by the merge vector (8.5.3.2.2).
+    fn copied(&mut self, x: u32, y: u32, log2: u32, vector: Vector)
+        requires low { 3 ≤ log2 }
+        requires high { log2 ≤ 5 }
+        requires column { x % 2 ^ log2 ≡ 0 }
+        requires row { y % 2 ^ log2 ≡ 0 }
+        requires across { x + 2 ^ log2 ≤ coded (last self.old).size.w }
+        requires down { y + 2 ^ log2 ≤ coded (last self.old).size.h }
+        requires source { IsTrue (has_source (last self.old).size x y log2 vector) }
+        ensures last { last self.new ≡ last self.old }
+        ensures taken { (units : List ReadUnit) → stands_for self.old units → HasAvailable (last self.old).size units x y
+            → stands_for self.new (units ++ unit x y log2 (Copied vector) ∷ []) };
+
+    /// Takes a unit that is copied by a vector of its own (8.5.3.2.1).
+    fn moved(&mut self, x: u32, y: u32, log2: u32, vector: Vector)
+        requires low { 3 ≤ log2 }
+        requires high { log2 ≤ 5 }
+        requires column { x % 2 ^ log2 ≡ 0 }
+        requires row { y % 2 ^ log2 ≡ 0 }
+        requires across { x + 2 ^ log2 ≤ coded (last self.old).size.w }
+        requires down { y + 2 ^ log2 ≤ coded (last self.old).size.h }
+        requires source { IsTrue (has_source (last self.old).size x y log2 vector) }
+        ensures last { last self.new ≡ last self.old }
+        ensures taken { (units : List ReadUnit) → stands_for self.old units → HasAvailable (last self.old).size units x y
+            → stands_for self.new (units ++ unit x y log2 (Moved vector) ∷ []) };
+
+    /// Takes a unit of samples: those of the three components, one after another, each in rows from the top (7.3.8.7).
+    fn samples(&mut self, x: u32, y: u32, log2: u32, samples: &[u8])
+        requires low { 3 ≤ log2 }
+        requires high { log2 ≤ 5 }
+        requires column { x % 2 ^ log2 ≡ 0 }
+        requires row { y % 2 ^ log2 ≡ 0 }
+        requires across { x + 2 ^ log2 ≤ coded (last self.old).size.w }
+        requires down { y + 2 ^ log2 ≤ coded (last self.old).size.h }
+        requires long { length samples.now ≡ 2 ^ log2 * 2 ^ log2 + 2 ^ log2 * 2 ^ log2 + 2 ^ log2 * 2 ^ log2 }
+        ensures last { last self.new ≡ last self.old }
+        ensures taken { (units : List ReadUnit) → stands_for self.old units → HasAvailable (last self.old).size units x y
+            → stands_for self.new (units ++ unit x y log2 (Samples (thirds (2 ^ log2 * 2 ^ log2) samples.now)) ∷ []) };
+
+    /// Takes a unit of an intra mode (0 to 34) with its levels (7.3.8.8).
+    fn levels(&mut self, x: u32, y: u32, log2: u32, mode: u32, residuals: Residuals)
+        requires low { 3 ≤ log2 }
+        requires high { log2 ≤ 5 }
+        requires column { x % 2 ^ log2 ≡ 0 }
+        requires row { y % 2 ^ log2 ≡ 0 }
+        requires across { x + 2 ^ log2 ≤ coded (last self.old).size.w }
+        requires down { y + 2 ^ log2 ≤ coded (last self.old).size.h }
+        requires mode { mode < 35 }
+        requires long { AreResiduals log2 residuals }
+        ensures last { last self.new ≡ last self.old }
+        ensures taken { (units : List ReadUnit) → stands_for self.old units → HasAvailable (last self.old).size units x y
+            → stands_for self.new (units ++ unit x y log2 (Levels mode (levels_of log2 residuals.entry)) ∷ []) };
+}

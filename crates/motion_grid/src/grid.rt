@@ -1,0 +1,180 @@
+//! The motion of the coding units of a picture that are coded already.
+ghost use Rattle.std.specs.Prelude.{◌≡◌, ℕ, ◌+◌, ◌*◌, ◌%◌, ◌^◌, ◌<◌, ◌≤◌, List, [], ◌∷◌, ◌++◌, IfOk};
+ghost use Rattle.h265_model.specs.declared.leaf.Kind.{Kind};
+ghost use Rattle.h265_model.specs.Plain.{coded};
+ghost use Rattle.h265_model.specs.Motion as motion;
+ghost use Rattle.h265_model.specs.Motion.{Moving};
+ghost use Rattle.motion_grid.specs.Cells.{blocks, cell_at, kept_before, HasMotion, coded_unit};
+
+use crate::cells::{Cell, empty, fill_square};
+use crate::neighbours::{NO_MOTION, two_of};
+use h265_model::{NoMemory, Vector};
+use px_plane::Size;
+use std::alloc::Global;
+use std::marker::Model;
+
+/// What is kept of the motion of the coding units that were set, for each block of 8x8 of a picture.
+///
+/// It stands for the list of these units in the order in which they were set. Where two cover a place, the first counts.
+#[derive(Debug, Drop)]
+pub struct MotionGrid {
+    size: Size,
+    // In rows from the top.
+    cells: Vec<Option<Cell>>,
+}
+
+impl Model for MotionGrid {
+    ghost use Rattle.motion_grid.specs.Cells.{Cells, AreCells};
+
+    ghost Value = { Cells };
+
+    ghost view = { λ g. record { size = g.size; cells = g.cells.items } };
+
+    ghost invariant = { λ g. AreCells (record { size = g.size; cells = g.cells.items }) };
+}
+
+// How many blocks of 8 cover a side.
+fn blocks_of(side: u32) -> usize
+    requires { side ≤ 4096 }
+    ensures value { result ≡ blocks side }
+    ensures few { result ≤ 512 }
+{
+    ((side + 7) / 8) as usize
+}
+
+// The side of a block.
+fn side(log2: u32) -> u32
+    requires low { 3 ≤ log2 }
+    requires high { log2 ≤ 5 }
+    ensures value { result ≡ 2 ^ log2 }
+    ensures few { result ≤ 32 }
+{
+    match log2 {
+        3 => 8,
+        4 => 16,
+        _ => 32,
+    }
+}
+
+impl MotionGrid {
+    /// A grid for a picture of this size. No unit is set.
+    ///
+    /// # Errors
+    ///
+    /// `NoMemory` where the allocator refuses the cells.
+    pub fn new(alloc: Global, size: Size) -> Result<MotionGrid, NoMemory>
+        ensures size { IfOk result (λ g. g.size ≡ size) }
+        ensures empty { IfOk result (λ g. HasMotion g []) }
+    {
+        let area = blocks_of(size.w()) * blocks_of(size.h());
+        let cells = vec![in alloc; None; area]?;
+        Ok(MotionGrid { size, cells })
+    }
+
+    /// Forgets all units.
+    pub fn clear(&mut self)
+        ensures size { self.new.size ≡ self.old.size }
+        ensures empty { HasMotion self.new [] }
+    {
+        empty(&mut self.cells);
+    }
+
+    /// Sets the unit of side 2^log2 at (x, y), with the vector by which it was copied, or `None` where it wasn't. It lies in the coded picture, at
+    /// multiples of its side, which is 8, 16 or 32.
+    pub fn set(&mut self, x: u32, y: u32, log2: u32, vector: Option<Vector>)
+        requires low { 3 ≤ log2 }
+        requires high { log2 ≤ 5 }
+        requires column { x % 2 ^ log2 ≡ 0 }
+        requires row { y % 2 ^ log2 ≡ 0 }
+        requires across { x + 2 ^ log2 ≤ coded self.old.size.w }
+        requires down { y + 2 ^ log2 ≤ coded self.old.size.h }
+        ensures size { self.new.size ≡ self.old.size }
+        ensures set { (units : List Moving) → HasMotion self.old units → (kind : Kind) → HasMotion self.new (units ++ coded_unit x y log2 kind vector ∷ []) }
+    {
+        let columns = blocks_of(self.size.w());
+        let left = (x / 8) as usize;
+        let top = (y / 8) as usize;
+        let side = 1 << (log2 - 3);
+        fill_square(&mut self.cells, columns, left, top, side, Cell { vector });
+    }
+
+    // What is kept of the block with a place.
+    fn cell(&self, x: u32, y: u32) -> Option<Cell>
+        ensures { result ≡ cell_at self.now x y }
+    {
+        let (column, row) = ((x / 8) as usize, (y / 8) as usize);
+        let columns = blocks_of(self.size.w());
+        if column >= columns {
+            return None;
+        }
+        let rows = blocks_of(self.size.h());
+        if row >= rows {
+            return None;
+        }
+        self.cells[row * columns + column]
+    }
+
+    // The vector at the place before (x, y) in both directions (6.4.2).
+    fn before(&self, x: u32, y: u32) -> Option<Vector>
+        ensures { result ≡ kept_before self.now x y }
+    {
+        if x == 0 || y == 0 {
+            return None;
+        }
+        self.cell(x - 1, y - 1)?.vector
+    }
+
+    // The vector of one of the five neighbours of a block of side `n`, the first that has one.
+    fn neighbour(&self, x: u32, y: u32, n: u32) -> Option<Vector>
+        requires x { x < 4096 }
+        requires y { y < 4096 }
+        requires n { n ≤ 32 }
+        ensures { result ≡ motion.first_vector (kept_before self.now x (y + n) ∷ kept_before self.now (x + n) y ∷ kept_before self.now (x + n + 1) y
+            ∷ kept_before self.now x (y + n + 1) ∷ kept_before self.now x y ∷ []) }
+    {
+        let left = self.before(x, y + n);
+        if left.is_some() {
+            return left;
+        }
+        let above = self.before(x + n, y);
+        if above.is_some() {
+            return above;
+        }
+        let right = self.before(x + n + 1, y);
+        if right.is_some() {
+            return right;
+        }
+        self.before(x, y + n + 1).or(self.before(x, y))
+    }
+
+    /// The merge vector of a block of side 2^log2 at (x, y): that of the one merging candidate (8.5.3.2.2).
+    pub fn merge(&self, x: u32, y: u32, log2: u32) -> Vector
+        requires low { 3 ≤ log2 }
+        requires high { log2 ≤ 5 }
+        requires across { x < coded self.now.size.w }
+        requires down { y < coded self.now.size.h }
+        ensures { (units : List Moving) → HasMotion self.now units → result ≡ motion.merge units x y log2 }
+    {
+        let n = side(log2);
+        let (_w, _h) = (self.size.w(), self.size.h());
+        self.neighbour(x, y, n).unwrap_or(NO_MOTION)
+    }
+
+    /// The two motion vector predictors of a block of side 2^log2 at (x, y) (8.5.3.2.6 and 8.5.3.2.7).
+    pub fn predictors(&self, x: u32, y: u32, log2: u32) -> (Vector, Vector)
+        requires low { 3 ≤ log2 }
+        requires high { log2 ≤ 5 }
+        requires across { x < coded self.now.size.w }
+        requires down { y < coded self.now.size.h }
+        ensures { (units : List Moving) → HasMotion self.now units → result ≡ motion.predictors units x y log2 }
+    {
+        let n = side(log2);
+        let (_w, _h) = (self.size.w(), self.size.h());
+        let left = self.before(x, y + n + 1).or(self.before(x, y + n));
+        let above = self
+            .before(x + n + 1, y)
+            .or(self.before(x + n, y))
+            .or(self.before(x, y));
+        two_of(left, above)
+    }
+}

@@ -1,0 +1,93 @@
+//! Merge vectors and predictors of units, from an independent model of the recorder in Python.
+ghost use Rattle.std.specs.Prelude.{◌≡◌, ◌≤◌, ◌^◌, IfOk};
+
+use super::{MotionGrid, Vector};
+use px_plane::Size;
+use std::alloc::Global;
+use std::test::Fail;
+
+// A grid of 72 by 40.
+fn empty(alloc: Global) -> Result<MotionGrid, Fail>
+    ensures { IfOk result (λ g. g.size ≡ record { w = 70; h = 40 }) }
+{
+    let size = Size::new(70, 40).ok_or("size")?;
+    Ok(MotionGrid::new(alloc, size)?)
+}
+
+fn side(log2: u32) -> u32
+    requires low { 3 ≤ log2 }
+    requires high { log2 ≤ 5 }
+    ensures { result ≡ 2 ^ log2 }
+{
+    match log2 {
+        3 => 8,
+        4 => 16,
+        _ => 32,
+    }
+}
+
+fn vector_of(vector: Option<(i32, i32)>) -> Option<Vector> {
+    match vector {
+        None => None,
+        Some((x, y)) => Some(Vector { x, y }),
+    }
+}
+
+fn parts(vector: Vector) -> (i32, i32) {
+    (vector.x, vector.y)
+}
+
+type Told = (u32, u32, u32, Option<(i32, i32)>, [i32; 6]);
+
+// Units, each with its vector, the merge vector before it and the two predictors.
+const UNITS: [Told; 30] = [
+    (0, 0, 3, Some((3, -8)), [0, 0, 0, 0, 0, 0]),
+    (8, 0, 3, Some((-8, -8)), [3, -8, 3, -8, 0, 0]),
+    (0, 8, 3, Some((-16, 0)), [3, -8, -8, -8, 0, 0]),
+    (8, 8, 3, Some((-16, 0)), [-16, 0, -16, 0, -8, -8]),
+    (16, 0, 4, Some((3, 8)), [-16, 0, -16, 0, 0, 0]),
+    (0, 16, 4, None, [-16, 0, 3, 8, 0, 0]),
+    (16, 16, 4, Some((0, 8)), [3, 8, 3, 8, 0, 0]),
+    (32, 0, 4, Some((0, 8)), [3, 8, 0, 8, 0, 0]),
+    (48, 0, 4, Some((-16, 8)), [0, 8, 0, 8, 0, 0]),
+    (32, 16, 3, Some((-8, 8)), [0, 8, 0, 8, 0, 0]),
+    (40, 16, 3, None, [-8, 8, -8, 8, -16, 8]),
+    (32, 24, 3, Some((3, 8)), [0, 8, 0, 8, -8, 8]),
+    (40, 24, 3, None, [3, 8, 3, 8, -8, 8]),
+    (48, 16, 3, None, [-16, 8, -16, 8, 0, 0]),
+    (56, 16, 3, Some((0, 0)), [-16, 8, -16, 8, 0, 0]),
+    (48, 24, 3, None, [0, 0, 0, 0, 0, 0]),
+    (56, 24, 3, Some((0, 0)), [0, 0, 0, 0, 0, 0]),
+    (64, 0, 3, Some((8, -8)), [-16, 8, -16, 8, 0, 0]),
+    (64, 8, 3, Some((-16, 8)), [-16, 8, 0, 0, 8, -8]),
+    (64, 16, 3, Some((3, -8)), [0, 0, 0, 0, -16, 8]),
+    (64, 24, 3, Some((8, -8)), [0, 0, 0, 0, 3, -8]),
+    (0, 32, 3, Some((0, 0)), [0, 0, 0, 0, 0, 0]),
+    (8, 32, 3, Some((0, 0)), [0, 0, 0, 0, 0, 8]),
+    (16, 32, 3, None, [0, 0, 0, 0, 0, 8]),
+    (24, 32, 3, Some((0, 8)), [0, 8, 3, 8, 0, 0]),
+    (32, 32, 3, None, [0, 8, 0, 8, 3, 8]),
+    (40, 32, 3, None, [3, 8, 3, 8, 0, 0]),
+    (48, 32, 3, Some((8, 5)), [0, 0, 0, 0, 0, 0]),
+    (56, 32, 3, None, [8, 5, 8, 5, 8, -8]),
+    (64, 32, 3, Some((8, 5)), [8, -8, 8, -8, 0, 0]),
+];
+
+#[test]
+fn neighbours_tell(rt: HostRuntime) -> Result<(), Fail> {
+    let mut grid = empty(rt.alloc())?;
+    for (x, y, log2, vector, told) in UNITS {
+        assert!(rt; log2 >= 3 && log2 <= 5 && x <= 64 && y <= 32);
+        let n = side(log2);
+        assert!(rt; x % n == 0 && y % n == 0 && x + n <= 72 && y + n <= 40);
+        let merge = parts(grid.merge(x, y, log2));
+        assert_eq!(rt; merge, (told[0], told[1]), "merge at {x}, {y}");
+        let (first, second) = grid.predictors(x, y, log2);
+        assert_eq!(rt; parts(first), (told[2], told[3]), "first at {x}, {y}");
+        assert_eq!(rt; parts(second), (told[4], told[5]), "second at {x}, {y}");
+        grid.set(x, y, log2, vector_of(vector));
+    }
+    grid.clear();
+    assert_eq!(rt; parts(grid.merge(8, 8, 3)), (0, 0), "cleared");
+    Ok(())
+}

@@ -1,0 +1,3 @@
+pub mod ModeReads
+pub mod ComponentReads
+pub mod IntraReads
