@@ -330,6 +330,9 @@ escape_is : (sum ones k : ℕ) (e : Engine) → escape_read sum ones k e ≡ and
 escape_is sum zero k e = escape_zero sum k e ∙ zero_by sum k (bypass_read e)
 escape_is sum (suc ones) k e = escape_suc sum ones k e ∙ more_by sum ones k (bypass_read e) (λ s d. escape_is s ones (suc k) d)
 
+pub escape_eg : (k : ℕ) (e : Engine) → escape_read 0 15 k e ≡ eg_read k e
+escape_eg k e = escape_is 0 15 k e ∙ no_more (eg_from 15 k e)
+
 abbrev rest_then : ℕ → ℕ → ℕ × Engine → Option (ℕ × Engine)
 rest_then r p found = (if nat_lt p 4 then (fl_read r >>= λ low. give (p * 2 ^ r + low)) else (eg_read (suc r) >>= λ rest. give (4 * 2 ^ r + rest))) found.1
 

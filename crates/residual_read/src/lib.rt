@@ -3,6 +3,7 @@
 
 mod blocks;
 mod flags;
+mod golomb;
 mod last;
 mod lay;
 mod numbers;
@@ -13,6 +14,7 @@ mod values;
 pub use bin_items::Block;
 pub use blocks::read_residual;
 pub use cabac_dec::Decoder;
+pub use golomb::read_exp_golomb;
 
 #[cfg(test)]
 mod tests;

@@ -59,7 +59,7 @@ fn read_prefix(decoder: &mut Decoder) -> Option<u32>
 }
 
 // Reads EGk (9.3.3.3).
-fn read_escape(decoder: &mut Decoder, k: u32) -> Option<u32>
+pub(crate) fn read_escape(decoder: &mut Decoder, k: u32) -> Option<u32>
     requires open { IsOpen decoder.old }
     requires few { k ≤ 5 }
     ensures value { Answers result (escape_read 0 15 k decoder.old) decoder.new }

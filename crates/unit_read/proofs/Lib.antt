@@ -1,3 +1,6 @@
 pub mod ModeReads
 pub mod ComponentReads
 pub mod IntraReads
+pub mod VectorReads
+pub mod ContentReads
+pub mod UnitReads

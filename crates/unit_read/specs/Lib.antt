@@ -1,1 +1,3 @@
 pub mod Intra
+pub mod Units
+pub mod Vectors

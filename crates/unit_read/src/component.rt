@@ -11,7 +11,7 @@ use scan_orders::scan_kind;
 
 /// Reads the levels of a component of a unit with a mode, where its flag says that one isn't 0, and fills `out` with them. It answers nothing exactly
 /// where the bins end, or a level isn't from -255 to 255.
-pub fn read_component(
+pub(crate) fn read_component(
     decoder: &mut Decoder,
     component: u32,
     mode: u32,

@@ -61,7 +61,7 @@ fn read_planes(
 
 /// Reads the mode of an intra unit, by three candidates, and the levels of its components, which fill three blocks of its side (7.3.8.10 without a split).
 /// It answers nothing exactly where the bins end, the chroma mode isn't the luma mode, or a level isn't from -255 to 255.
-pub fn read_intra(
+pub(crate) fn read_intra(
     decoder: &mut Decoder,
     candidates: &ArrayVec<u32, 3>,
     first: &mut Block,

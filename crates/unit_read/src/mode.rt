@@ -53,7 +53,7 @@ fn mode_of(remainder: u32, a: u32, b: u32, c: u32) -> u32
 
 /// Reads a mode by three candidates (prev_intra_luma_pred_flag, and mpm_idx or rem_intra_luma_pred_mode, 7.3.8.5). It answers nothing exactly where the
 /// bins end.
-pub fn read_mode(decoder: &mut Decoder, candidates: &ArrayVec<u32, 3>) -> Option<u32>
+pub(crate) fn read_mode(decoder: &mut Decoder, candidates: &ArrayVec<u32, 3>) -> Option<u32>
     requires open { IsOpen decoder.old }
     requires candidates { AreThree candidates.now.items }
     ensures value { Answers result (mode_read candidates.now.items decoder.old) decoder.new }
