@@ -177,7 +177,7 @@ yields_quarters kind size depth half x y before modes lower =
       sound = all_append (IsSound kind size) ((a ++ b) ++ c) d abc hd.1;
     })))))
 
-yields_tree : (kind : SliceKind) (size : Size) (depth x y : ℕ) (before : List Moving) → AreModes (leaves before) → Yields (IsReadTree kind size depth x y) (tree_read kind size depth x y before)
+pub yields_tree : (kind : SliceKind) (size : Size) (depth x y : ℕ) (before : List Moving) → AreModes (leaves before) → Yields (IsReadTree kind size depth x y) (tree_read kind size depth x y before)
 yields_tree kind size zero x y before modes = go (is_inside size x y)
   where
     T : Bool → List ReadUnit → Type 0

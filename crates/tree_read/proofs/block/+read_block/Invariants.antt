@@ -1,0 +1,4 @@
+use Rattle.tree_read.proofs.block.+read_block.Given as goal
+
+abbrev pub decreases-read_block : goal.decreases-read_block
+decreases-read_block g l = l.depth

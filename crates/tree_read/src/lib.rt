@@ -1,0 +1,9 @@
+//! Coding trees, read from their bins (Rec. ITU-T H.265, 7.3.8.2 and 7.3.8.4), and handed to what takes their units.
+#![tactic(auto)]
+
+mod block;
+mod ctu;
+mod split;
+
+pub use ctu::read_ctu;
+pub use unit_read::{Decoder, Grid, LeafSink, MotionGrid, Size, SliceKind};
