@@ -1,2 +1,3 @@
+pub mod FlaggedReads
 pub mod Splits
 pub mod TreeReads

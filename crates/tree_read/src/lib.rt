@@ -3,7 +3,9 @@
 
 mod block;
 mod ctu;
+mod flagged;
 mod split;
 
 pub use ctu::read_ctu;
+pub use flagged::read_flagged;
 pub use unit_read::{Decoder, Grid, LeafSink, MotionGrid, Size, SliceKind};

@@ -1,0 +1,20 @@
+-- Coding tree units of a row, each with the flag behind it.
+use Rattle.std.specs.Prelude.{◌≡◌, ℕ, Bool, List, Option, Some, None}
+use Rattle.h265_model.specs.declared.Place.TheVariants.{Terminate}
+use Rattle.h265_model.specs.declared.leaf.SliceKind.{SliceKind}
+use Rattle.h265_model.specs.Plain.{Size}
+use Rattle.h265_model.specs.Engine.{Engine, Reader, ◌>>=◌, give}
+use Rattle.h265_model.specs.Motion.{Moving}
+use Rattle.h265_model.specs.Tree.{ReadUnit, ReadCtu, ctu_read, contexts_read, expect}
+
+-- a coding tree unit with its end_of_slice_segment_flag, which has to have this value (7.3.8.1)
+unfoldable pub flagged_read : SliceKind → Size → List Moving → ℕ → Bool → Reader ReadCtu
+flagged_read kind size before ctu ends = do
+  units ← ctu_read kind size before ctu
+  contexts ← contexts_read
+  expect Terminate ends (give (record { units = units; contexts = contexts }))
+
+-- the contexts after a coding tree unit that was read, of whose units this holds, or nothing just where nothing is read
+abbrev pub ReadsCtu : Option (List ℕ) → Option (ReadCtu × Engine) → Engine → (List ReadUnit → Type 0) → Type 0
+ReadsCtu None read new Holds = read ≡ None
+ReadsCtu (Some contexts) read new Holds = (units : List ReadUnit) × (read ≡ Some (record { units = units; contexts = contexts }, new)) × Holds units
