@@ -39,7 +39,11 @@ fn block_of(noise: &[u8], small: bool) -> Block
     for (place, byte) in noise.iter().enumerate() {
         let place = (place % 1024) as u32;
         let level = i16::from(*byte) - 128;
-        block.set(place % 32, place / 32, if small { level / 32 } else { level });
+        block.set(
+            place % 32,
+            place / 32,
+            if small { level / 32 } else { level },
+        );
     }
     block
 }
@@ -95,11 +99,25 @@ pub fn run<R: Clock + Print>(rt: &R, alloc: Global, mode: Mode) -> Result<(), Tr
         code: &code,
         blocks,
     };
-    measure(rt, alloc, mode, "levels of noise read", 1024 * blocks, &mut levels)?;
+    measure(
+        rt,
+        alloc,
+        mode,
+        "levels of noise read",
+        1024 * blocks,
+        &mut levels,
+    )?;
     let code = level_code(alloc, &bytes, true)?;
     let mut levels = Levels {
         code: &code,
         blocks,
     };
-    measure(rt, alloc, mode, "small levels read", 1024 * blocks, &mut levels)
+    measure(
+        rt,
+        alloc,
+        mode,
+        "small levels read",
+        1024 * blocks,
+        &mut levels,
+    )
 }
