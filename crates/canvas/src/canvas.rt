@@ -77,8 +77,7 @@ impl Canvas {
     pub fn begin(&mut self)
         ensures last { self.new.last ≡ self.old.last }
         ensures empty { Draws self.new [] }
-    {
-    }
+    {}
 
     /// Makes the picture that is drawn the last one. If its units covered it, then it is the picture that they rebuild after the last one, and where
     /// none was copied, after any.
@@ -129,7 +128,8 @@ impl LeafSink for Canvas {
         let area = area(log2);
         self.drawn.put_block(0, x, y, n, &samples[..area]);
         self.drawn.put_block(1, x, y, n, &samples[area..2 * area]);
-        self.drawn.put_block(2, x, y, n, &samples[2 * area..3 * area]);
+        self.drawn
+            .put_block(2, x, y, n, &samples[2 * area..3 * area]);
     }
 
     fn levels(&mut self, x: u32, y: u32, log2: u32, mode: u32, residuals: Residuals) {
