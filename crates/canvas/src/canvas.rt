@@ -68,7 +68,8 @@ impl Canvas {
 
     /// The picture that is drawn.
     pub fn drawn(&self) -> &Picture
-        ensures { result.now ≡ self.now.drawn }
+        ensures drawn { result.now ≡ self.now.drawn }
+        ensures size { result.now.size ≡ self.now.last.size }
     {
         &self.drawn
     }
@@ -84,6 +85,7 @@ impl Canvas {
     pub fn keep(&mut self)
         ensures last { self.new.last ≡ self.old.drawn }
         ensures drawn { self.new.drawn ≡ self.old.last }
+        ensures size { self.new.last.size ≡ self.old.last.size }
         ensures rebuilt { (units : List ReadUnit) → Draws self.old units → AreWhole self.old.last.size units → (before : ThePicture) → Stores self.old.last before
             → planes_of self.new.last ≡ rebuild self.old.last.size before units }
         ensures still { (units : List ReadUnit) → Draws self.old units → AreWhole self.old.last.size units → AreStill units → (before : ThePicture)
