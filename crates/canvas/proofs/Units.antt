@@ -44,9 +44,11 @@ pub record IsUnitDrawn (old new : Pictures) (units : List ReadUnit) (u : ReadUni
   pub others : (c x y : ℕ) → c < 3 → is_inside old.last.size x y ≡ true → is_in_square u.x u.y (2 ^ u.log2) x y ≡ false → picture_of new.drawn c x y ≡ picture_of old.drawn c x y
 
 pub unit_drawn : (old new : Pictures) (units : List ReadUnit) (u : ReadUnit) → Draws old units → IsUnitDrawn old new units u → Draws new (units ++ u ∷ [])
-unit_drawn old new units u draws is = record { each = λ before stores c x y small inside covered.
-    whole before (subst (λ (p : Planes). Stores p before) is.last stores) c x y small (subst (λ (p : Planes). is_inside p.size x y ≡ true) is.last inside) covered
-    ∙ ap (λ (p : Planes). with_units p.size before blank (units ++ u ∷ []) c x y) (sym is.last) }
+unit_drawn old new units u draws is = record {
+  each = λ before stores c x y small inside covered.
+      whole before (subst (λ (p : Planes). Stores p before) is.last stores) c x y small (subst (λ (p : Planes). is_inside p.size x y ≡ true) is.last inside) covered
+      ∙ ap (λ (p : Planes). with_units p.size before blank (units ++ u ∷ []) c x y) (sym is.last);
+}
   where
     size : Size
     size = old.last.size

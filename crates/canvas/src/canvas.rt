@@ -67,7 +67,8 @@ impl Canvas {
 
     /// The picture that is drawn.
     pub fn drawn(&self) -> &Picture
-        ensures { result.now ≡ self.now.drawn }
+        ensures drawn { result.now ≡ self.now.drawn }
+        ensures size { result.now.size ≡ self.now.last.size }
     {
         &self.drawn
     }
@@ -76,14 +77,14 @@ impl Canvas {
     pub fn begin(&mut self)
         ensures last { self.new.last ≡ self.old.last }
         ensures empty { Draws self.new [] }
-    {
-    }
+    {}
 
     /// Makes the picture that is drawn the last one. If its units covered it, then it is the picture that they rebuild after the last one, and where
     /// none was copied, after any.
     pub fn keep(&mut self)
         ensures last { self.new.last ≡ self.old.drawn }
         ensures drawn { self.new.drawn ≡ self.old.last }
+        ensures size { self.new.last.size ≡ self.old.last.size }
         ensures rebuilt { (units : List ReadUnit) → Draws self.old units → AreWhole self.old.last.size units → (before : ThePicture) → Stores self.old.last before
             → planes_of self.new.last ≡ rebuild self.old.last.size before units }
         ensures still { (units : List ReadUnit) → Draws self.old units → AreWhole self.old.last.size units → AreStill units → (before : ThePicture)
@@ -128,7 +129,8 @@ impl LeafSink for Canvas {
         let area = area(log2);
         self.drawn.put_block(0, x, y, n, &samples[..area]);
         self.drawn.put_block(1, x, y, n, &samples[area..2 * area]);
-        self.drawn.put_block(2, x, y, n, &samples[2 * area..3 * area]);
+        self.drawn
+            .put_block(2, x, y, n, &samples[2 * area..3 * area]);
     }
 
     fn levels(&mut self, x: u32, y: u32, log2: u32, mode: u32, residuals: Residuals) {

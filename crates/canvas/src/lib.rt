@@ -10,3 +10,5 @@ mod source;
 pub use canvas::Canvas;
 pub use leaf_sink::{LeafSink, Residuals, Vector};
 
+#[cfg(test)]
+mod tests;

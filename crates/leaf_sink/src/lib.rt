@@ -3,7 +3,9 @@
 
 mod residuals;
 mod sink;
+mod source;
 
 pub use h265_model::Vector;
 pub use residuals::Residuals;
 pub use sink::LeafSink;
+pub use source::has_source;

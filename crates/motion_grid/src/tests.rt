@@ -73,19 +73,40 @@ const UNITS: [Told; 30] = [
     (64, 32, 3, Some((8, 5)), [8, -8, 8, -8, 0, 0]),
 ];
 
+// Sets a unit, and gives the merge vector and the predictors that were told before, or `None` where it doesn't lie in the picture.
+fn set(
+    grid: &mut MotionGrid,
+    x: u32,
+    y: u32,
+    log2: u32,
+    vector: Option<Vector>,
+) -> Option<[Vector; 3]>
+    requires { grid.old.size ≡ record { w = 70; h = 40 } }
+    ensures { grid.new.size ≡ record { w = 70; h = 40 } }
+{
+    if log2 < 3 || log2 > 5 || x > 64 || y > 32 {
+        return None;
+    }
+    let n = side(log2);
+    if x % n != 0 || y % n != 0 || x + n > 72 || y + n > 40 {
+        return None;
+    }
+    let merge = grid.merge(x, y, log2);
+    let (first, second) = grid.predictors(x, y, log2);
+    grid.set(x, y, log2, vector);
+    Some([merge, first, second])
+}
+
 #[test]
 fn neighbours_tell(rt: HostRuntime) -> Result<(), Fail> {
     let mut grid = empty(rt.alloc())?;
     for (x, y, log2, vector, told) in UNITS {
-        assert!(rt; log2 >= 3 && log2 <= 5 && x <= 64 && y <= 32);
-        let n = side(log2);
-        assert!(rt; x % n == 0 && y % n == 0 && x + n <= 72 && y + n <= 40);
-        let merge = parts(grid.merge(x, y, log2));
-        assert_eq!(rt; merge, (told[0], told[1]), "merge at {x}, {y}");
-        let (first, second) = grid.predictors(x, y, log2);
+        let [merge, first, second] = set(&mut grid, x, y, log2, vector_of(vector)).ok_or(
+            "a place",
+        )?;
+        assert_eq!(rt; parts(merge), (told[0], told[1]), "merge at {x}, {y}");
         assert_eq!(rt; parts(first), (told[2], told[3]), "first at {x}, {y}");
         assert_eq!(rt; parts(second), (told[4], told[5]), "second at {x}, {y}");
-        grid.set(x, y, log2, vector_of(vector));
     }
     grid.clear();
     assert_eq!(rt; parts(grid.merge(8, 8, 3)), (0, 0), "cleared");
