@@ -60,7 +60,7 @@ const SIZES: [(u32, u32, &[u8]); 8] = [
 fn writes_sets(rt: HostRuntime) -> Result<(), Fail> {
     for (w, h, middle) in SIZES {
         let size = Size::new(w, h).ok_or("no size")?;
-        let out = write_params(rt.alloc(), &Params { size })?;
+        let out = write_params(rt.alloc(), &Params { size, segments: false })?;
         let mut want = FRONT.to_vec(rt.alloc())?;
         want.extend_from_slice(middle)?;
         want.extend_from_slice(BACK)?;
@@ -80,6 +80,7 @@ fn reads_back(rt: HostRuntime) -> Result<(), Fail> {
         let params = read_params(found.all())?;
         assert_eq!(rt; params.size.w(), w);
         assert_eq!(rt; params.size.h(), h);
+        assert!(rt; !params.segments);
     }
     Ok(())
 }
