@@ -1,10 +1,14 @@
 -- Laws of three parameter sets that are read.
-use Rattle.std.proofs.Common.{◌≡◌, ℕ, ◌<◌, Bool, List, [], ◌∷◌, length, get_or, Result, Ok, Err, refl, sym, ◌∙◌, ap, arith}
+use Rattle.std.proofs.Common.{◌≡◌, ℕ, ◌<◌, Bool, List, [], ◌∷◌, cond, true, false, Option, Some, None, length, get_or, Result, Ok, Err, refl, sym, ◌∙◌, ap, arith}
+use Rattle.std.specs.Prelude.{◌==◌, nat_lt, if◌then◌else◌}
+use Rattle.std.proofs.lemmas.Bool.Decides.{nat_tests}
 use Rattle.std.proofs.lemmas.List.{get_or_read}
 use Rattle.h265_model.specs.Bits.{◌>>-◌}
-use Rattle.h265_model.specs.Plain.{Size}
+use Rattle.h265_model.specs.Bits.{read_u}
+use Rattle.h265_model.specs.Fields.{or_number}
+use Rattle.h265_model.specs.Plain.{Size, coded}
 use Rattle.h265_model.specs.NalUnits.{NalUnit}
-use Rattle.h265_model.specs.ParamSets.{BadParam, in_set, vps_fields, read_fixed_set, read_sps, read_pps, read_params}
+use Rattle.h265_model.specs.ParamSets.{BadParam, in_set, vps_fields, read_fixed_set, read_sps, segments_flag, read_pps, read_params}
 
 abbrev vps_of : NalUnit → Result (Unit {0}) ℕ
 vps_of nal = read_fixed_set 0x40 vps_fields 17 nal
@@ -62,3 +66,30 @@ pub good_sets : (sets : List NalUnit) (a b c : NalUnit) (size : Size) (segments 
     read_params sets ≡ Ok (size, segments)
 unfolding after_pps
 good_sets sets a b c size segments h is e js f ks g = third_set sets a b c size h is e js f ∙ ap (after_pps size) (same (pps_of size) sets 2 c a (Ok segments) h (omega arith) ks g)
+
+-- ---- the flag of segments
+
+after_segments : Size → Option (ℕ × List Bool) → Result (Bool × List Bool) ℕ
+after_segments size r = or_number 3 r >>- λ found. if found.0 == 0 then Ok (false, found.1) else if nat_lt 32 (coded size.w) then Ok (true, found.1) else Err 3
+
+segments_in : (size : Size) (z : List Bool) → segments_flag size z ≡ after_segments size (read_u 1 z)
+unfolding after_segments
+segments_in size z = refl
+
+pub segments_none : (size : Size) (z : List Bool) → read_u 1 z ≡ None → segments_flag size z ≡ Err 3
+unfolding after_segments
+segments_none size z e = segments_in size z ∙ ap (after_segments size) e
+
+pub segments_unset : (size : Size) (z : List Bool) (v : ℕ) (t : List Bool) → read_u 1 z ≡ Some (v, t) → v ≡ 0 → segments_flag size z ≡ Ok (false, t)
+unfolding after_segments
+segments_unset size z v t e is =
+    let unset : (v == 0) ≡ true = grind (arith, nat_tests) in
+    segments_in size z ∙ ap (after_segments size) e ∙ ap (λ (b : Bool). if b then Ok (false, t) else if nat_lt 32 (coded size.w) then Ok (true, t) else Err 3) unset
+
+pub segments_set : (size : Size) (z : List Bool) (v : ℕ) (t : List Bool) → read_u 1 z ≡ Some (v, t) → (v ≡ 0 → ⊥) → (wide : Bool) → nat_lt 32 (coded size.w) ≡ wide →
+    segments_flag size z ≡ cond wide (Ok (true, t)) (Err 3)
+unfolding after_segments
+segments_set size z v t e is wide w =
+    let one : (v == 0) ≡ false = grind (arith, nat_tests) in
+    segments_in size z ∙ ap (after_segments size) e ∙ ap (λ (b : Bool). if b then Ok (false, t) else if nat_lt 32 (coded size.w) then Ok (true, t) else Err 3) one
+    ∙ ap (λ (b : Bool). cond b (Ok (true, t)) (Err 3)) w

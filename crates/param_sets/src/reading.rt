@@ -1,5 +1,6 @@
 //! Reading parameter sets.
-ghost use Rattle.std.specs.Prelude.{◌≡◌, ◌+◌, ◌<◌, ◌≤◌, Ok, Err, ◌∷◌, [], length, bytes_eq, IfOk, IsTrue, MatchResult};
+ghost use Rattle.std.specs.Prelude.{◌≡◌, ◌+◌, ◌<◌, ◌≤◌, Ok, Err, ◌∷◌, [], length, bytes_eq, nat_lt, IfOk, IsTrue, MatchResult};
+ghost use Rattle.h265_model.specs.Plain.{coded};
 ghost use Rattle.h265_model.specs.Fields.{golomb, read_fields};
 ghost use Rattle.bit_string.specs.Tables.{fields_of, all_wide};
 ghost use Rattle.h265_model.specs.ParamSets.{vps_fields, sps_front, sps_back, pps_front, pps_back, segments_flag, read_pps, read_fixed_set, read_sps, read_size, read_window, read_side, read_offset, read_params, is_coded_side};
@@ -143,14 +144,16 @@ fn read_segments(from: &mut BitReader, size: Size) -> Result<bool, u32>
     match from.bits(1) {
         None => Err(3),
         Some(0) => Ok(false),
-        Some(_) => {
-            if (size.w() + 7) / 8 * 8 > 32 {
-                Ok(true)
-            } else {
-                Err(3)
-            }
-        }
+        Some(_) if is_wide(size) => Ok(true),
+        Some(_) => Err(3),
     }
+}
+
+// The coded picture is wider than a coding tree block.
+fn is_wide(size: Size) -> bool
+    ensures { result ≡ nat_lt 32 (coded size.w) }
+{
+    (size.w() + 7) / 8 * 8 > 32
 }
 
 fn has_header(unit: &Unit, first: u8) -> bool
