@@ -123,6 +123,7 @@ static size_t decode(enum work work, const uint8_t *noise, size_t count, const u
   return sum;
 }
 
+#ifndef LEVELS  // checks/levels.c has a main of its own
 int main(int words, char **word) {
   size_t count = words > 1 ? (size_t)atol(word[1]) : 1 << 20;
   uint8_t *noise = malloc(2 * count), *code = malloc(2 * count + 64);
@@ -148,3 +149,4 @@ int main(int words, char **word) {
     printf("%s read in C: %zu\n  %.0f microseconds\n", names[work], sum, shortest);
   }
 }
+#endif

@@ -1,10 +1,11 @@
-//! Measures the crates. With the name of a group, `units`, `planes`, `scripts`, `coder`, `decoder` or `blocks`, it says how long each of its works takes at best; with
+//! Measures the crates. With the name of a group, `units`, `planes`, `scripts`, `coder`, `decoder`, `levels` or `blocks`, it says how long each of its works takes at best; with
 //! no word it does each work once, with no clock, and says what was done.
 #![tactic(auto)]
 
 mod blocks;
 mod coder;
 mod decoder;
+mod levels;
 mod measure;
 mod noise;
 mod planes;
@@ -32,6 +33,7 @@ fn run_all<R: Clock + Print>(rt: &R, alloc: Global) -> Result<(), Trouble> {
     scripts::run(rt, alloc, Mode::Once)?;
     coder::run(rt, alloc, Mode::Once)?;
     decoder::run(rt, alloc, Mode::Once)?;
+    levels::run(rt, alloc, Mode::Once)?;
     blocks::run(rt, alloc, Mode::Once)
 }
 
@@ -42,6 +44,7 @@ fn run_group<R: Clock + Print>(rt: &R, alloc: Global, word: &str) -> Result<(), 
         "scripts" => scripts::run(rt, alloc, Mode::Timed),
         "coder" => coder::run(rt, alloc, Mode::Timed),
         "decoder" => decoder::run(rt, alloc, Mode::Timed),
+        "levels" => levels::run(rt, alloc, Mode::Timed),
         "blocks" => blocks::run(rt, alloc, Mode::Timed),
         _ => Err(Trouble::NoSuchGroup),
     }

@@ -11,7 +11,7 @@ pub enum Trouble {
     Host(#[from] io::Error),
     #[error("no memory")]
     NoMemory,
-    #[error("the groups are units, planes, scripts, coder, decoder and blocks")]
+    #[error("the groups are units, planes, scripts, coder, decoder, levels and blocks")]
     NoSuchGroup,
     #[error("a crate refused what it must take")]
     Refused,

@@ -73,7 +73,7 @@ read_cover kind size units some is =
 
 -- ---- two canvases
 
-block_same : (size : Size) (prev a b : Picture) (leaf : Leaf) (c : Content) (component : ℕ) → ((qx qy : ℕ) → is_available size leaf.x leaf.y qx qy ≡ true → a component qx qy ≡ b component qx qy)
+pub block_same : (size : Size) (prev a b : Picture) (leaf : Leaf) (c : Content) (component : ℕ) → ((qx qy : ℕ) → is_available size leaf.x leaf.y qx qy ≡ true → a component qx qy ≡ b component qx qy)
     → block_of size prev a leaf c component ≡ block_of size prev b leaf c component
 unfolding block_of
 block_same size prev a b leaf (Copied v) component near = refl

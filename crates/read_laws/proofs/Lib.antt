@@ -3,3 +3,4 @@ pub mod ReadTrees
 pub mod ReadRows
 pub mod Drawn
 pub mod Apart
+pub mod LeftOut

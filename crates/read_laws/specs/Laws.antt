@@ -1,6 +1,6 @@
 -- Laws over the reading of coding tree units: whatever the bytes are, what is read of them is lawful and covers the picture.
-use Rattle.std.specs.Prelude.{◌≡◌, ◌<◌, ℕ, suc, ◌+◌, ◌*◌, true, false, List, [], ◌∷◌, ◌++◌, length, map, Option, Some, None}
-use Rattle.std.specs.List.{AllByRecursion, list_any}
+use Rattle.std.specs.Prelude.{◌≡◌, ◌<◌, ℕ, suc, ◌+◌, ◌*◌, Bool, true, false, not, List, [], ◌∷◌, ◌++◌, length, map, Option, Some, None}
+use Rattle.std.specs.List.{AllByRecursion, filter, list_any}
 use Rattle.h265_model.specs.declared.leaf.SliceKind.{SliceKind}
 use Rattle.h265_model.specs.declared.leaf.SliceKind.TheVariants.{I, P}
 use Rattle.h265_model.specs.declared.leaf.Leaf.{Leaf}
@@ -10,8 +10,8 @@ use Rattle.h265_model.specs.Raster.{planes}
 use Rattle.h265_model.specs.Engine.{Engine}
 use Rattle.h265_model.specs.Tree.{IsLawfulTree, IsMode, AreModes}
 use Rattle.h265_model.specs.Plain.{covers}
-use Rattle.h265_model.specs.Motion.{Moving, leaves}
-use Rattle.h265_model.specs.Tree.{ReadUnit, ReadCtu, kind_of, vector_of, leaf_of, moving_of, units_of, is_in_picture, ctu_read}
+use Rattle.h265_model.specs.Motion.{Moving, leaves, no_motion, is_vector}
+use Rattle.h265_model.specs.Tree.{Content, Copied, Moved, Samples, Levels, ReadUnit, ReadCtu, kind_of, vector_of, leaf_of, moving_of, units_of, is_in_picture, ctu_read}
 use Rattle.h265_model.specs.Slice.{slice_read, segment_read}
 use Rattle.h265_model.specs.Rebuild.{with_units, rebuild}
 
@@ -76,3 +76,26 @@ AreApart before (leaf ∷ leaves) = ((x y : ℕ) → covers x y leaf ≡ true �
 -- each place of a picture is drawn by one unit alone
 abbrev pub EachPlaceIsDrawnOnce : Type 0
 EachPlaceIsDrawnOnce = (kind : SliceKind) (size : Size) (n : ℕ) (units : List ReadUnit) → IsReadFirst kind size n units → AreApart [] (map leaf_of units)
+
+-- a copy from the same place
+abbrev pub is_still_copy : Content → Bool
+is_still_copy (Copied v) = is_vector v no_motion
+is_still_copy (Moved v) = false
+is_still_copy (Samples planes) = false
+is_still_copy (Levels mode planes) = false
+
+-- the units that aren't
+abbrev pub changing : List ReadUnit → List ReadUnit
+changing units = filter (λ (unit : ReadUnit). not (is_still_copy unit.content)) units
+
+-- drawn over the picture before, a picture is the same without these copies
+abbrev pub EachStillCopyIsLeftOut : Type 0
+EachStillCopyIsLeftOut =
+    (kind : SliceKind) (size : Size) (n : ℕ) (prev : Picture) (units : List ReadUnit) → IsReadFirst kind size n units → (component x y : ℕ) → component < 3 →
+    with_units size prev prev (changing units) component x y ≡ with_units size prev prev units component x y
+
+-- so the units of a whole picture draw it over the picture before without them
+abbrev pub EachPictureIsDrawnInPlace : Type 0
+EachPictureIsDrawnInPlace =
+    (kind : SliceKind) (size : Size) (prev : Picture) (units : List ReadUnit) → 0 < ctus size.w → IsReadFirst kind size (ctus size.w * ctus size.h) units →
+    planes size (with_units size prev prev (changing units)) ≡ rebuild size prev units
