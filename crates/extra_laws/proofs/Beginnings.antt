@@ -7,7 +7,7 @@ use Rattle.h265_model.specs.Plain.{joined}
 use Rattle.h265_model.specs.Settings.{Settings}
 use Rattle.h265_model.specs.Raster.{Raster, IsRaster}
 use Rattle.h265_model.specs.NalUnits.{stream_bytes}
-use Rattle.h265_model.specs.ParamSets.{set_units}
+use Rattle.h265_model.specs.ParamSets.{param_units}
 use Rattle.h265_model.specs.ExtraStream.{has_segments, extra_piece, extra_pieces_after, extra_pieces, extra_stream}
 use Rattle.h265_model.specs.Decode.{decode}
 use Rattle.extra_laws.specs.Laws.{EachBeginningIsDecoded}
@@ -29,5 +29,5 @@ all_taken T (suc n) (x ∷ list) h = (h.0, all_taken T n list h.1)
 pub beginnings_are_decoded : EachBeginningIsDecoded
 unfolding extra_pieces extra_stream
 beginnings_are_decoded settings extra pictures n size_is wide are =
-    ap (λ (l : List (List ℕ)). decode (joined (stream_bytes (set_units settings.size (has_segments extra)) ∷ l))) (take_after settings extra 0 None n pictures)
+    ap (λ (l : List (List ℕ)). decode (joined (stream_bytes (param_units settings.size (has_segments extra)) ∷ l))) (take_after settings extra 0 None n pictures)
     ∙ extra_streams_are_decoded settings extra (take n pictures) size_is wide (all_taken (IsRaster settings.size) n pictures are)

@@ -1,14 +1,15 @@
 -- The law of parameter sets: their size is read back.
-use Rattle.std.proofs.Common.{◌≡◌, ℕ, ◌+◌, ◌-◌, ◌*◌, ◌≤◌, Bool, true, false, cond, List, [], ◌∷◌, ◌++◌, length, Ok, Err, refl, ◌∙◌, ap, arith, append_assoc}
+use Rattle.std.proofs.Common.{◌≡◌, ℕ, zero, suc, ◌<◌, Result, ◌+◌, ◌-◌, ◌*◌, ◌≤◌, Bool, true, false, cond, List, [], ◌∷◌, ◌++◌, length, Ok, Err, refl, ◌∙◌, ap, arith, append_assoc}
 use Rattle.std.specs.Prelude.{nat_lt, nat_le, ◌==◌, ◌&&◌, not, IsTrue}
 use Rattle.std.specs.List.{AllByRecursion}
+use Rattle.std.proofs.lemmas.Bool.{lt-ltb}
 use Rattle.std.proofs.lemmas.Bool.Decides.{nat_tests}
 use Rattle.h265_model.specs.Plain.{Size, coded}
 use Rattle.h265_model.specs.Settings.{most_area, is_size}
 use Rattle.h265_model.specs.Bits.{◌>>-◌}
 use Rattle.h265_model.specs.Bits.{u, ue, alignment}
-use Rattle.h265_model.specs.Fields.{Field, U, Ue, fixed, golomb, fields_bits, read_fields, read_trailing}
-use Rattle.h265_model.specs.ParamSets.{profile_tier_level, vps_front, vps_back, vps_fields, sps_formats, sps_front, size_fields, is_padded, flag, window_fields, sps_back, sps_fields, pps_fields, set_unit, param_units, set_bits, read_fixed_set, is_coded_side, read_side, read_offset, read_whole, windowed, read_window, read_size, read_sps, read_params}
+use Rattle.h265_model.specs.Fields.{Field, U, Ue, fixed, golomb, fields_bits, read_field, read_fields, read_trailing}
+use Rattle.h265_model.specs.ParamSets.{profile_tier_level, vps_front, vps_back, vps_fields, sps_formats, sps_front, size_fields, is_padded, flag, window_fields, sps_back, sps_fields, pps_front, pps_back, pps_fields, set_unit, param_units, segments_flag, read_pps, set_bits, read_fixed_set, is_coded_side, read_side, read_offset, read_whole, windowed, read_window, read_size, read_sps, read_params}
 use Rattle.h265_model.specs.NalUnits.{IsNalUnit}
 use Rattle.h265_laws.specs.Laws.{EachSizeIsRead}
 use Rattle.h265_model.proofs.FieldLaws.{fits, all_fit, same, read_field-element_bits, read_fields-fields_bits, fields_bits-append, bits-aligned_bits, ends-aligned_bits, read_trailing-alignment}
@@ -26,10 +27,6 @@ sps_front_fits = refl
 pub sps_back_fits : all_fit sps_back ≡ true
 unfolding sps_back
 sps_back_fits = refl
-
-pub pps_fits : all_fit pps_fields ≡ true
-unfolding pps_fields
-pps_fits = refl
 
 -- ---- a set of known fields
 
@@ -146,16 +143,44 @@ sps_read size limits =
     ap (λ r. r >>- λ bits. read_fields sps_front bits >>- λ bits. read_size bits >>- λ size. read_fields sps_back size.1 >>- λ bits. read_trailing 63 bits >>- λ _. Ok size.0) read
     ∙ rw (read_fields-fields_bits sps_front at_size sps_front_fits, size_read size at_back limits, read_fields-fields_bits sps_back (alignment n) sps_back_fits, read_trailing-alignment 63 n)
 
+-- the picture parameter set, with the flag of segments
+pps_parts : (segments : Bool) (end : List Bool) → fields_bits (pps_fields segments) ++ end ≡ fields_bits pps_front ++ (fields_bits (fixed 3 1 (flag segments) ∷ []) ++ (fields_bits pps_back ++ end))
+unfolding pps_fields
+pps_parts segments end = sps_in_parts pps_front (fixed 3 1 (flag segments) ∷ []) pps_back end
+
+flag_read : (v : ℕ) (rest : List Bool) → v < 2 → read_field 3 (U 1) (fields_bits (fixed 3 1 v ∷ []) ++ rest) ≡ Ok (v, rest)
+unfolding fields_bits u
+flag_read zero rest less = read_field-element_bits 3 (U 1) 0 rest refl
+flag_read (suc zero) rest less = read_field-element_bits 3 (U 1) 1 rest refl
+flag_read (suc (suc v)) rest less = absurd (omega arith)
+
+segments_read : (size : Size) (segments : Bool) (rest : List Bool) → (segments ≡ true → nat_lt 32 (coded size.w) ≡ true)
+    → segments_flag size (fields_bits (fixed 3 1 (flag segments) ∷ []) ++ rest) ≡ Ok (segments, rest)
+segments_read size false rest wide =
+    ap (λ (r : Result (ℕ × List Bool) ℕ). r >>- λ found. cond (found.0 == 0) (Ok (false, found.1)) (cond (nat_lt 32 (coded size.w)) (Ok (true, found.1)) (Err 3))) (flag_read 0 rest (omega arith))
+segments_read size true rest wide =
+    ap (λ (r : Result (ℕ × List Bool) ℕ). r >>- λ found. cond (found.0 == 0) (Ok (false, found.1)) (cond (nat_lt 32 (coded size.w)) (Ok (true, found.1)) (Err 3))) (flag_read 1 rest (omega arith))
+    ∙ ap (λ (b : Bool). cond b (Ok (true, rest)) (Err 3)) (wide refl)
+
+pps_read : (size : Size) (segments : Bool) → (segments ≡ true → nat_lt 32 (coded size.w) ≡ true) → read_pps size (set_unit 0x44 (pps_fields segments)) ≡ Ok segments
+pps_read size segments wide =
+    let n = length (fields_bits (pps_fields segments)) in
+    let at_back : List Bool = fields_bits pps_back ++ alignment n in
+    let at_flag : List Bool = fields_bits (fixed 3 1 (flag segments) ∷ []) ++ at_back in
+    let read = set_bits-set_unit 0x44 (pps_fields segments) ∙ ap Ok (pps_parts segments (alignment n)) in
+    ap (λ r. r >>- λ bits. read_fields pps_front bits >>- λ bits. segments_flag size bits >>- λ segments. read_fields pps_back segments.1 >>- λ bits. read_trailing 31 bits >>- λ _. Ok segments.0) read
+    ∙ rw (read_fields-fields_bits pps_front at_flag refl, segments_read size segments at_back wide, read_fields-fields_bits pps_back (alignment n) refl, read_trailing-alignment 31 n)
+
 pub read_params-param_units : EachSizeIsRead
 unfolding param_units read_params
-read_params-param_units size h =
-    rw (fixed_set_read 0x40 17 vps_fields vps_fits, sps_read size (in_limits size h), fixed_set_read 0x44 31 pps_fields pps_fits)
+read_params-param_units size segments h wide =
+    rw (fixed_set_read 0x40 17 vps_fields vps_fits, sps_read size (in_limits size h), pps_read size segments (λ e. lt-ltb 32 (coded size.w) (wide e)))
 
 -- ---- the three sets in a stream
 
 pub set_unit_is : (first : ℕ) (fields : List Field) → IsNalUnit (set_unit first fields)
 set_unit_is first fields = record { header = (first, 1, omega arith, refl); ends = ends-aligned_bits (fields_bits fields) }
 
-pub param_units_are : (size : Size) → AllByRecursion IsNalUnit (param_units size)
+pub param_units_are : (size : Size) (segments : Bool) → AllByRecursion IsNalUnit (param_units size segments)
 unfolding param_units
-param_units_are size = (set_unit_is 0x40 vps_fields, (set_unit_is 0x42 (sps_fields size), (set_unit_is 0x44 pps_fields, tt)))
+param_units_are size segments = (set_unit_is 0x40 vps_fields, (set_unit_is 0x42 (sps_fields size), (set_unit_is 0x44 (pps_fields segments), tt)))

@@ -1,5 +1,5 @@
 -- Laws over the definitions: what is written is read back.
-use Rattle.std.specs.Prelude.{slice_index, ◌≡◌, ℕ, ◌+◌, ◌-◌, ◌*◌, ◌^◌, ◌<◌, ◌≤◌, Bool, List, [], ◌∷◌, ◌++◌, length, take, IsTrue, Ok, Some, ℤ, map, Option}
+use Rattle.std.specs.Prelude.{slice_index, ◌≡◌, ℕ, ◌+◌, ◌-◌, ◌*◌, ◌^◌, ◌<◌, ◌≤◌, Bool, true, List, [], ◌∷◌, ◌++◌, length, take, IsTrue, Ok, Some, ℤ, map, Option}
 use Rattle.std.specs.List.{AllByRecursion}
 use Rattle.h265_model.specs.declared.Item.{Item}
 use Rattle.h265_model.specs.Bits.{ue, bits, bytes, read_ue}
@@ -13,7 +13,7 @@ use Rattle.h265_model.specs.Contexts.{AreContexts}
 use Rattle.h265_model.specs.Stream.{pieces}
 use Rattle.h265_model.specs.declared.leaf.SliceKind.{SliceKind}
 use Rattle.h265_model.specs.declared.leaf.Leaf.{Leaf}
-use Rattle.h265_model.specs.Plain.{Size, ctus, Picture, IsPicture, below, AreBytes}
+use Rattle.h265_model.specs.Plain.{Size, coded, ctus, Picture, IsPicture, below, AreBytes}
 use Rattle.h265_model.specs.NalUnits.{NalUnit, stream_bytes, units, escape, unescape, IsNalUnit}
 use Rattle.h265_model.specs.declared.Place.TheVariants.{Bypass}
 use Rattle.h265_model.specs.Binarise.{tr, fl, eg, remaining, bypass_bins, tr_read, fl_read, eg_read, remaining_read}
@@ -34,14 +34,16 @@ EachCodeIsRead = (k : ℕ) (rest : List Bool) → k < 2 ^ 32 - 1 → read_ue (ue
 abbrev pub EachNalUnitIsRead : Type 0
 EachNalUnitIsRead = (us : List NalUnit) → AllByRecursion IsNalUnit us → units (stream_bytes us) ≡ Ok us
 
--- a size, from its parameter sets (7.3.2)
+-- a size and whether a picture has a segment for each row, from their parameter sets (7.3.2)
 abbrev pub EachSizeIsRead : Type 0
-EachSizeIsRead = (size : Size) → IsTrue (is_size size) → read_params (param_units size) ≡ Ok size
+EachSizeIsRead =
+    (size : Size) (segments : Bool) → IsTrue (is_size size) → (segments ≡ true → 32 < coded size.w) → read_params (param_units size segments) ≡ Ok (size, segments)
 
--- and nothing else is read as that size
+-- and nothing else is read as these
 abbrev pub EachSizeIsSpelled : Type 0
 EachSizeIsSpelled =
-    (us : List NalUnit) (size : Size) → AllByRecursion (λ unit. AreBytes unit.rbsp) us → read_params us ≡ Ok size → us ≡ param_units size
+    (us : List NalUnit) (size : Size) (segments : Bool) → AllByRecursion (λ unit. AreBytes unit.rbsp) us → read_params us ≡ Ok (size, segments) →
+    (us ≡ param_units size segments) × (segments ≡ true → 32 < coded size.w)
 
 -- a slice segment header, whatever follows it (7.3.6.1)
 abbrev pub EachHeadIsRead : Type 0

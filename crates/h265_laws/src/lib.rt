@@ -13,12 +13,12 @@ pub fn each_nal_unit_is_read()
     ensures { EachNalUnitIsRead }
 {}
 
-/// Each size is read back from its parameter sets.
+/// Each size is read back from its parameter sets, with whether a picture has a segment for each row.
 pub fn each_size_is_read()
     ensures { EachSizeIsRead }
 {}
 
-/// Nothing but its parameter sets is read as a size.
+/// Nothing but its parameter sets is read as a size, with or without a segment for each row.
 pub fn each_size_is_spelled()
     ensures { EachSizeIsSpelled }
 {}

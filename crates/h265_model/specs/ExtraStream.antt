@@ -8,7 +8,7 @@ use Rattle.h265_model.specs.Bits.{bytes}
 use Rattle.h265_model.specs.Settings.{Settings}
 use Rattle.h265_model.specs.Raster.{Raster, coded_picture}
 use Rattle.h265_model.specs.NalUnits.{escape, start_code, stream_bytes, nal_unit_bytes}
-use Rattle.h265_model.specs.ParamSets.{set_units}
+use Rattle.h265_model.specs.ParamSets.{param_units}
 use Rattle.h265_model.specs.SliceHead.{segment_bits}
 use Rattle.h265_model.specs.Tree.{source_of}
 use Rattle.h265_model.specs.Hash.{hash_header, hash_bits}
@@ -78,7 +78,7 @@ has_segments Moves = false
 -- the parameter sets, and one piece for each picture
 unfoldable pub extra_pieces : Settings → Extra → List Raster → List (List ℕ)
 extra_pieces settings extra pictures =
-    stream_bytes (set_units settings.size (has_segments extra)) ∷ extra_pieces_after settings extra 0 None pictures
+    stream_bytes (param_units settings.size (has_segments extra)) ∷ extra_pieces_after settings extra 0 None pictures
 
 unfoldable pub extra_stream : Settings → Extra → List Raster → List ℕ
 extra_stream settings extra pictures = joined (extra_pieces settings extra pictures)

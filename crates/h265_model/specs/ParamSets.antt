@@ -304,23 +304,16 @@ pps_back =
     fixed 30 1 0 ∷ []
 
 -- with slices that have one segment, or one for each row of coding tree units (dependent_slice_segments_enabled_flag)
-unfoldable pub pps_fields_of : Bool → List Field
-pps_fields_of segments = pps_front ++ fixed 3 1 (flag segments) ∷ pps_back
-
-unfoldable pub pps_fields : List Field
-pps_fields = pps_front ++ fixed 3 1 0 ∷ pps_back
+unfoldable pub pps_fields : Bool → List Field
+pps_fields segments = pps_front ++ fixed 3 1 (flag segments) ∷ pps_back
 
 -- a parameter set's NAL unit: its header, its fields and trailing bits
 abbrev pub set_unit : ℕ → List Field → NalUnit
 set_unit first fields = record { header = first ∷ 1 ∷ []; rbsp = bytes (aligned_bits (fields_bits fields)) }
 
--- the three parameter sets of a size
-unfoldable pub param_units : Size → List NalUnit
-param_units size = set_unit 0x40 vps_fields ∷ set_unit 0x42 (sps_fields size) ∷ set_unit 0x44 pps_fields ∷ []
-
--- the same of streams whose pictures may have a segment for each row
-unfoldable pub set_units : Size → Bool → List NalUnit
-set_units size segments = set_unit 0x40 vps_fields ∷ set_unit 0x42 (sps_fields size) ∷ set_unit 0x44 (pps_fields_of segments) ∷ []
+-- the three parameter sets of a size, of streams whose pictures have one segment, or one for each row
+unfoldable pub param_units : Size → Bool → List NalUnit
+param_units size segments = set_unit 0x40 vps_fields ∷ set_unit 0x42 (sps_fields size) ∷ set_unit 0x44 (pps_fields segments) ∷ []
 
 -- ---- reading
 
@@ -382,19 +375,6 @@ read_sps unit =
     read_fields sps_back size.1 >>- λ bits.
     read_trailing 63 bits >>- λ _. Ok size.0
 
--- the size that three parameter sets tell, or the first field that differs
-abbrev pub read_three : NalUnit → NalUnit → NalUnit → Result Size BadParam
-read_three vps sps pps =
-    in_set 0 (read_fixed_set 0x40 vps_fields 17 vps) >>- λ _.
-    in_set 1 (read_sps sps) >>- λ size.
-    in_set 2 (read_fixed_set 0x44 pps_fields 31 pps) >>- λ _. Ok size
-
-unfoldable pub read_params : List NalUnit → Result Size BadParam
-read_params (vps ∷ sps ∷ pps ∷ []) = read_three vps sps pps
-read_params _ = Err (record { set = 0; field = 0 })
-
--- ---- reading where a segment for each row is told
-
 -- dependent_slice_segments_enabled_flag, which is 0 where a picture is at most one coding tree block wide
 abbrev pub segments_flag : Size → List Bool → Result (Bool × List Bool) ℕ
 segments_flag size bits =
@@ -410,13 +390,13 @@ read_pps size unit =
     read_fields pps_back segments.1 >>- λ bits.
     read_trailing 31 bits >>- λ _. Ok segments.0
 
-abbrev pub read_all_sets : NalUnit → NalUnit → NalUnit → Result (Size × Bool) BadParam
-read_all_sets vps sps pps =
+abbrev pub read_three : NalUnit → NalUnit → NalUnit → Result (Size × Bool) BadParam
+read_three vps sps pps =
     in_set 0 (read_fixed_set 0x40 vps_fields 17 vps) >>- λ _.
     in_set 1 (read_sps sps) >>- λ size.
     in_set 2 (read_pps size pps) >>- λ segments. Ok (size, segments)
 
 -- the size that three parameter sets tell, and whether a picture has a segment for each row, or the first field that differs
-unfoldable pub read_sets : List NalUnit → Result (Size × Bool) BadParam
-read_sets (vps ∷ sps ∷ pps ∷ []) = read_all_sets vps sps pps
-read_sets _ = Err (record { set = 0; field = 0 })
+unfoldable pub read_params : List NalUnit → Result (Size × Bool) BadParam
+read_params (vps ∷ sps ∷ pps ∷ []) = read_three vps sps pps
+read_params _ = Err (record { set = 0; field = 0 })

@@ -71,7 +71,7 @@ pieces_after settings n before (now ∷ pictures) =
 
 -- the parameter sets, and one piece for each picture
 unfoldable pub pieces : Settings → List Raster → List (List ℕ)
-pieces settings pictures = stream_bytes (param_units settings.size) ∷ pieces_after settings 0 None pictures
+pieces settings pictures = stream_bytes (param_units settings.size false) ∷ pieces_after settings 0 None pictures
 
 unfoldable pub stream_of : Settings → List Raster → List ℕ
 stream_of settings pictures = joined (pieces settings pictures)

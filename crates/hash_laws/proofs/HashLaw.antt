@@ -21,7 +21,7 @@ use Rattle.h265_laws.proofs.HeadLaws.{read_head-head_bits}
 use Rattle.h265_laws.proofs.ParamLaws.{in_limits}
 use Rattle.h265_laws.proofs.PictureLaw.{IsFit, size_fits, cropped}
 use Rattle.h265_laws.proofs.StreamLaw.{picture_of, picture_unit, IsFollowing, decoded_as, picture_is_read, piece_is_unit, unit_is}
-use Rattle.stream_laws.proofs.SetsLaw.{sets_are_read}
+use Rattle.h265_laws.proofs.ParamLaws.{read_params-param_units}
 use Rattle.stream_laws.proofs.OldStreams.{now_whole, step_same}
 use Rattle.stream_laws.proofs.StreamForm.{one_step, ReadsOn, AreRead, stream_is_decoded}
 use Rattle.hash_laws.specs.Laws.{EachHashedStreamIsDecoded}
@@ -93,4 +93,4 @@ pub hashed_streams_are_decoded : EachHashedStreamIsDecoded
 hashed_streams_are_decoded settings rasters size_is are =
     stream_is_decoded settings Hash (hashed_units settings)
     (hashed_are_read settings (size_fits settings.size size_is) (in_limits settings.size size_is).w_low)
-    (sets_are_read settings.size false size_is (λ e. absurd (cc))) rasters are
+    (read_params-param_units settings.size false size_is (λ e. absurd (cc))) rasters are

@@ -35,7 +35,7 @@ use Rattle.h265_laws.proofs.PredictionLaw.{source_is}
 use Rattle.h265_laws.proofs.StreamLaw.{picture_of, leaves_of, source_in, lawful_of, many_of, IsFollowing}
 use Rattle.stream_laws.proofs.Behind.{Stores, IsBehind, behind_is, low_count, zero_count}
 use Rattle.stream_laws.proofs.OldStreams.{now_whole}
-use Rattle.stream_laws.proofs.SetsLaw.{sets_are_read}
+use Rattle.h265_laws.proofs.ParamLaws.{read_params-param_units}
 use Rattle.stream_laws.proofs.StreamForm.{one_step, ReadsOn, AreRead, stream_is_decoded}
 use Rattle.unit_laws.specs.Laws.{CanStand, CanStandAll, AreLawfulUnits, IsCopied, AreCopied, reads_after}
 use Rattle.unit_laws.proofs.Coded.{IsCoded}
@@ -201,4 +201,4 @@ pub moved_streams_are_decoded : EachMovedStreamIsDecoded
 moved_streams_are_decoded settings rasters size_is are =
     stream_is_decoded settings Moves (moved_slices settings)
     (moved_are_read settings (size_fits settings.size size_is) (in_limits settings.size size_is).w_low)
-    (sets_are_read settings.size false size_is (λ e. absurd (cc))) rasters are
+    (read_params-param_units settings.size false size_is (λ e. absurd (cc))) rasters are

@@ -1,11 +1,12 @@
 //! Reading parameter sets.
-ghost use Rattle.std.specs.Prelude.{◌≡◌, ◌+◌, ◌<◌, ◌≤◌, Ok, Err, ◌∷◌, [], length, bytes_eq, IfOk, IsTrue, MatchResult};
+ghost use Rattle.std.specs.Prelude.{◌≡◌, ◌+◌, ◌<◌, ◌≤◌, Ok, Err, ◌∷◌, [], length, bytes_eq, nat_lt, IfOk, IsTrue, MatchResult};
+ghost use Rattle.h265_model.specs.Plain.{coded};
 ghost use Rattle.h265_model.specs.Fields.{golomb, read_fields};
 ghost use Rattle.bit_string.specs.Tables.{fields_of, all_wide};
-ghost use Rattle.h265_model.specs.ParamSets.{vps_fields, sps_front, sps_back, pps_fields, read_fixed_set, read_sps, read_size, read_window, read_side, read_offset, read_params, is_coded_side};
+ghost use Rattle.h265_model.specs.ParamSets.{vps_fields, sps_front, sps_back, pps_front, pps_back, segments_flag, read_pps, read_fixed_set, read_sps, read_size, read_window, read_side, read_offset, read_params, is_coded_side};
 
 use crate::Params;
-use crate::tables::{PPS, SPS_BACK, SPS_FRONT, VPS};
+use crate::tables::{PPS_BACK, PPS_FRONT, SPS_BACK, SPS_FRONT, VPS};
 use annexb::Unit;
 use bit_string::{BitReader, Descriptor, Field, read_fields, read_trailing};
 use px_plane::Size;
@@ -30,7 +31,7 @@ pub struct BadParam {
 pub fn read_params(sets: &[Unit]) -> Result<Params, BadParam>
     requires { length sets.now ≡ 3 }
     ensures { MatchResult result
-        (λ params. read_params sets.now ≡ Ok params.size)
+        (λ params. read_params sets.now ≡ Ok (params.size, params.segments))
         (λ bad. read_params sets.now ≡ Err (record { set = bad.set; field = bad.field })) }
 {
     if let Err(field) = read_vps(&sets[0]) {
@@ -40,8 +41,8 @@ pub fn read_params(sets: &[Unit]) -> Result<Params, BadParam>
         Ok(size) => size,
         Err(field) => return Err(BadParam { set: 1, field }),
     };
-    match read_pps(&sets[2]) {
-        Ok(()) => Ok(Params { size }),
+    match read_pps(&sets[2], size) {
+        Ok(segments) => Ok(Params { size, segments }),
         Err(field) => Err(BadParam { set: 2, field }),
     }
 }
@@ -52,14 +53,6 @@ fn read_vps(unit: &Unit) -> Result<(), u32>
         (λ field. read_fixed_set 0x40 vps_fields 17 unit.now ≡ Err field) }
 {
     read_fixed_set(unit, 0x40, &VPS, 17)
-}
-
-fn read_pps(unit: &Unit) -> Result<(), u32>
-    ensures { MatchResult result
-        (λ _. read_fixed_set 0x44 pps_fields 31 unit.now ≡ Ok tt)
-        (λ field. read_fixed_set 0x44 pps_fields 31 unit.now ≡ Err field) }
-{
-    read_fixed_set(unit, 0x44, &PPS, 31)
 }
 
 // A set of which all fields are fixed.
@@ -107,6 +100,60 @@ fn read_sps_back(from: &mut BitReader) -> Result<(), u32>
         (λ field. read_fields sps_back from.old.left ≡ Err field) }
 {
     read_fields(from, &SPS_BACK)
+}
+
+// Whether a picture has a segment for each row.
+fn read_pps(unit: &Unit, size: Size) -> Result<bool, u32>
+    ensures { MatchResult result
+        (λ segments. read_pps size unit.now ≡ Ok segments)
+        (λ field. read_pps size unit.now ≡ Err field) }
+{
+    if !has_header(unit, 0x44) {
+        return Err(0);
+    }
+    let mut from = BitReader::new(unit.rbsp.as_slice());
+    read_pps_front(&mut from)?;
+    let segments = read_segments(&mut from, size)?;
+    read_pps_back(&mut from)?;
+    read_trailing(&mut from, 31)?;
+    Ok(segments)
+}
+
+fn read_pps_front(from: &mut BitReader) -> Result<(), u32>
+    ensures { MatchResult result
+        (λ _. read_fields pps_front from.old.left ≡ Ok from.new.left)
+        (λ field. read_fields pps_front from.old.left ≡ Err field) }
+{
+    read_fields(from, &PPS_FRONT)
+}
+
+fn read_pps_back(from: &mut BitReader) -> Result<(), u32>
+    ensures { MatchResult result
+        (λ _. read_fields pps_back from.old.left ≡ Ok from.new.left)
+        (λ field. read_fields pps_back from.old.left ≡ Err field) }
+{
+    read_fields(from, &PPS_BACK)
+}
+
+// dependent_slice_segments_enabled_flag, which is 0 where a picture is at most one coding tree block wide.
+fn read_segments(from: &mut BitReader, size: Size) -> Result<bool, u32>
+    ensures { MatchResult result
+        (λ segments. segments_flag size from.old.left ≡ Ok (segments, from.new.left))
+        (λ field. segments_flag size from.old.left ≡ Err field) }
+{
+    match from.bits(1) {
+        None => Err(3),
+        Some(0) => Ok(false),
+        Some(_) if is_wide(size) => Ok(true),
+        Some(_) => Err(3),
+    }
+}
+
+// The coded picture is wider than a coding tree block.
+fn is_wide(size: Size) -> bool
+    ensures { result ≡ nat_lt 32 (coded size.w) }
+{
+    (size.w() + 7) / 8 * 8 > 32
 }
 
 fn has_header(unit: &Unit, first: u8) -> bool

@@ -222,14 +222,16 @@ pub static SPS_BACK: [Field; 48] = [
     u!(62, 1, 0),
 ];
 
-/// The picture parameter set (7.3.2.3).
-pub static PPS: [Field; 30] = [
+/// The picture parameter set before dependent_slice_segments_enabled_flag (7.3.2.3).
+pub static PPS_FRONT: [Field; 2] = [
     // pps_pic_parameter_set_id
     ue!(1, 0),
     // pps_seq_parameter_set_id
     ue!(2, 0),
-    // dependent_slice_segments_enabled_flag
-    u!(3, 1, 0),
+];
+
+/// The picture parameter set behind dependent_slice_segments_enabled_flag, which is field 3.
+pub static PPS_BACK: [Field; 27] = [
     // output_flag_present_flag
     u!(4, 1, 0),
     // num_extra_slice_header_bits

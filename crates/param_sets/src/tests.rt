@@ -60,7 +60,13 @@ const SIZES: [(u32, u32, &[u8]); 8] = [
 fn writes_sets(rt: HostRuntime) -> Result<(), Fail> {
     for (w, h, middle) in SIZES {
         let size = Size::new(w, h).ok_or("no size")?;
-        let out = write_params(rt.alloc(), &Params { size })?;
+        let out = write_params(
+            rt.alloc(),
+            &Params {
+                size,
+                segments: false,
+            },
+        )?;
         let mut want = FRONT.to_vec(rt.alloc())?;
         want.extend_from_slice(middle)?;
         want.extend_from_slice(BACK)?;
@@ -80,6 +86,38 @@ fn reads_back(rt: HostRuntime) -> Result<(), Fail> {
         let params = read_params(found.all())?;
         assert_eq!(rt; params.size.w(), w);
         assert_eq!(rt; params.size.h(), h);
+        assert!(rt; !params.segments);
+    }
+    Ok(())
+}
+
+// The picture parameter set of streams whose pictures have a segment for each row
+const BACK_WITH_SEGMENTS: &[u8] = b"\x00\x00\x00\x01\x44\x01\xe0\x71\x8a\xa4\x80";
+
+#[test]
+fn tells_segments(rt: HostRuntime) -> Result<(), Fail> {
+    for (w, h, middle) in SIZES {
+        let size = Size::new(w, h).ok_or("no size")?;
+        let out = write_params(
+            rt.alloc(),
+            &Params {
+                size,
+                segments: true,
+            },
+        )?;
+        let mut want = FRONT.to_vec(rt.alloc())?;
+        want.extend_from_slice(middle)?;
+        want.extend_from_slice(BACK_WITH_SEGMENTS)?;
+        assert_eq!(rt; out.as_slice(), want.as_slice());
+        let found = units(rt.alloc(), &want)?;
+        assert!(rt; found.all().len() == 3);
+        match read_params(found.all()) {
+            Ok(params) => assert!(rt; params.segments && w > 32),
+            Err(bad) => {
+                assert_eq!(rt; bad, BadParam { set: 2, field: 3 });
+                assert!(rt; w <= 32);
+            }
+        }
     }
     Ok(())
 }

@@ -50,7 +50,7 @@ kept_but old new job same stores = record {
 
 -- ---- the first piece
 
-pub first_piece : (settings : Settings) → pieces settings [] ≡ stream_bytes (param_units settings.size) ∷ []
+pub first_piece : (settings : Settings) → pieces settings [] ≡ stream_bytes (param_units settings.size false) ∷ []
 unfolding pieces pieces_after
 first_piece settings = refl
 

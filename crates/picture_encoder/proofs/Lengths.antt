@@ -95,7 +95,7 @@ weights_back : weights sps_back ≤ 10000
 unfolding sps_back
 weights_back = omega arith
 
-weights_pps : weights pps_fields ≤ 5000
+weights_pps : weights (pps_fields false) ≤ 5000
 unfolding pps_fields
 weights_pps = omega arith
 
@@ -103,16 +103,16 @@ weights_sps : (size : Size) → weights (sps_fields size) ≤ 16000
 weights_sps size =
     omega (arith, weights_append (sps_front ++ size_fields size) sps_back, weights_append sps_front (size_fields size), weights_front, weights_size size, weights_back)
 
-pub sets_short : (size : Size) → length (stream_bytes (param_units size)) < 2 ^ 40
+pub sets_short : (size : Size) → length (stream_bytes (param_units size false)) < 2 ^ 40
 unfolding stream_bytes param_units
 sets_short size =
     let v : List ℕ = escape (bytes (aligned_bits (fields_bits vps_fields))) in
     let s : List ℕ = escape (bytes (aligned_bits (fields_bits (sps_fields size)))) in
-    let p : List ℕ = escape (bytes (aligned_bits (fields_bits pps_fields))) in
+    let p : List ℕ = escape (bytes (aligned_bits (fields_bits (pps_fields false)))) in
     let lv : length v ≤ 2 * (weights vps_fields + 8) = length_table vps_fields in
     let ls : length s ≤ 2 * (weights (sps_fields size) + 8) = length_table (sps_fields size) in
-    let lp : length p ≤ 2 * (weights pps_fields + 8) = length_table pps_fields in
-    three v s p (weights vps_fields) (weights (sps_fields size)) (weights pps_fields) lv ls lp weights_vps (weights_sps size) weights_pps
+    let lp : length p ≤ 2 * (weights (pps_fields false) + 8) = length_table (pps_fields false) in
+    three v s p (weights vps_fields) (weights (sps_fields size)) (weights (pps_fields false)) lv ls lp weights_vps (weights_sps size) weights_pps
   where
     three : (v s p : List ℕ) (a b c : ℕ) → length v ≤ 2 * (a + 8) → length s ≤ 2 * (b + 8) → length p ≤ 2 * (c + 8) → a ≤ 5000 → b ≤ 16000 → c ≤ 5000
         → length ((start_code ++ (0x40 ∷ 1 ∷ []) ++ v) ++ ((start_code ++ (0x42 ∷ 1 ∷ []) ++ s) ++ ((start_code ++ (0x44 ∷ 1 ∷ []) ++ p) ++ []))) < 2 ^ 40

@@ -104,7 +104,13 @@ impl Encoder {
         ensures piece { IfOk result (λ piece. pieces self.now.settings [] ≡ piece.items ∷ []) }
         ensures short { IfOk result (λ piece. length piece.items < 2 ^ 40) }
     {
-        let piece = write_params(self.alloc, &Params { size: self.size })?;
+        let piece = write_params(
+            self.alloc,
+            &Params {
+                size: self.size,
+                segments: false,
+            },
+        )?;
         Ok(piece)
     }
 

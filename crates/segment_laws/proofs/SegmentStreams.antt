@@ -32,7 +32,7 @@ use Rattle.h265_laws.proofs.PredictionLaw.{source_is}
 use Rattle.h265_laws.proofs.StreamLaw.{picture_of, leaves_of, source_in, lawful_of, many_of, slice_of, IsFollowing}
 use Rattle.stream_laws.proofs.OldPictures.{rebuild_same}
 use Rattle.stream_laws.proofs.OldStreams.{now_whole}
-use Rattle.stream_laws.proofs.SetsLaw.{sets_are_read}
+use Rattle.h265_laws.proofs.ParamLaws.{read_params-param_units}
 use Rattle.stream_laws.proofs.StreamForm.{two_bytes, ReadsOn, AreRead, stream_is_decoded}
 use Rattle.stream_laws.proofs.Behind.{IsBehind, behind_is, low_count, zero_count, still_copies}
 use Rattle.unit_laws.specs.Laws.{AreLawfulUnits}
@@ -176,4 +176,4 @@ pub segmented_streams_are_decoded : EachSegmentedStreamIsDecoded
 segmented_streams_are_decoded settings rasters size_is wide are =
     stream_is_decoded settings Segments (segmented settings)
     (segmented_are_read settings (size_fits settings.size size_is) (in_limits settings.size size_is).w_low)
-    (sets_are_read settings.size true size_is (λ e. wide)) rasters are
+    (read_params-param_units settings.size true size_is (λ e. wide)) rasters are

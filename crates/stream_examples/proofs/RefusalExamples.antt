@@ -15,7 +15,7 @@ use Rattle.h265_model.specs.Rebuild.{moved_samples, block_of, rebuild}
 use Rattle.h265_model.specs.Slice.{slice_row_read, segment_row_read, row_of_bytes, rows_read}
 use Rattle.h265_model.specs.Tree.{coding_unit_read, ctu_read}
 use Rattle.h265_model.specs.NalUnits.{unescape_after, payload, forbidden, next_start, units_within, units}
-use Rattle.h265_model.specs.ParamSets.{profile_tier_level, vps_front, vps_back, sps_formats, sps_front, size_fields, sps_back, read_size, read_sets}
+use Rattle.h265_model.specs.ParamSets.{profile_tier_level, vps_front, vps_back, sps_formats, sps_front, size_fields, sps_back, read_size, read_params}
 use Rattle.h265_model.specs.Predict.{coding_order, neighbours, is_filtered, references, angle, inverse_angle, predict}
 use Rattle.h265_model.specs.Raster.{stored_picture, crop}
 use Rattle.h265_model.specs.Residual.{scan, scan_kind, last_context, sub_block_context, sig_context, greater1_context, greater2_context, cbf, in_rows, residual_read}
@@ -79,7 +79,7 @@ sets =
     (0x00 ∷ 0x00 ∷ 0x00 ∷ 0x01 ∷ 0x42 ∷ 0x01 ∷ 0x01 ∷ 0x24 ∷ 0x08 ∷ 0x00 ∷ 0x00 ∷ 0x03 ∷ 0x00 ∷ 0xBE ∷ 0x08 ∷ 0x00 ∷ 0x00 ∷ 0x03 ∷ 0x00 ∷ 0x00 ∷ 0x9C ∷ 0x90 ∷ 0x24 ∷ 0x4B ∷ 0x2D ∷ 0x77 ∷ 0x26 ∷ 0x2E ∷ 0xF7 ∷ 0x4B ∷ 0x89 ∷ 0xB8 ∷ 0x08 ∷ 0x68 ∷ 0x00 ∷ 0x04 ∷ 0x00 ∷ 0x00 ∷ 0x00 ∷ 0x01 ∷ 0x40 ∷ 0x01 ∷ 0x0C ∷ 0x01 ∷ 0xFF ∷ 0xFF ∷ 0x24 ∷ 0x08 ∷ 0x00 ∷ 0x00 ∷ 0x03 ∷ 0x00 ∷ 0xBE ∷ 0x08 ∷ 0x00 ∷ 0x00 ∷ 0x03 ∷ 0x00 ∷ 0x00 ∷ 0x9C ∷ 0xAC ∷ 0x09 ∷ 0x00 ∷ 0x00 ∷ 0x00 ∷ 0x01 ∷ 0x44 ∷ 0x01 ∷ 0xC0 ∷ 0x71 ∷ 0x8A ∷ 0xA4 ∷ 0x80 ∷ []) ∷ []
 
 sets_read : map (λ stream. counted (decode stream)) sets ≡ Err 0 ∷ Err 0 ∷ Err 2 ∷ Err 3 ∷ Err 0 ∷ Err 1 ∷ Err 2 ∷ Err 2 ∷ Err 0 ∷ []
-unfolding digits_up_to u value_after read_u read_ue_after read_alignment start lps_range next row_start start_codes slice_step segment_step hash_step step read_units decode engine_start doublings renormalised context_read bypass_read terminate_read aligned samples is_done read_fields hash_of_planes candidates mode_read vector_before merge predictors has_source difference_read whole_part vector_read moved_samples block_of rebuild slice_row_read segment_row_read row_of_bytes rows_read coding_unit_read ctu_read unescape_after payload forbidden next_start units_within units profile_tier_level vps_front vps_back sps_formats sps_front size_fields sps_back read_size read_sets coding_order neighbours is_filtered references angle inverse_angle predict stored_picture crop scan scan_kind last_context sub_block_context sig_context greater1_context greater2_context cbf in_rows residual_read cut_after substreams head_front head_middle dependent_fields read_offsets read_head read_segment_head split_context skip_context candidates_at block_words rounds compress hash_after digest_bytes md5
+unfolding digits_up_to u value_after read_u read_ue_after read_alignment start lps_range next row_start start_codes slice_step segment_step hash_step step read_units decode engine_start doublings renormalised context_read bypass_read terminate_read aligned samples is_done read_fields hash_of_planes candidates mode_read vector_before merge predictors has_source difference_read whole_part vector_read moved_samples block_of rebuild slice_row_read segment_row_read row_of_bytes rows_read coding_unit_read ctu_read unescape_after payload forbidden next_start units_within units profile_tier_level vps_front vps_back sps_formats sps_front size_fields sps_back read_size read_params coding_order neighbours is_filtered references angle inverse_angle predict stored_picture crop scan scan_kind last_context sub_block_context sig_context greater1_context greater2_context cbf in_rows residual_read cut_after substreams head_front head_middle dependent_fields read_offsets read_head read_segment_head split_context skip_context candidates_at block_words rounds compress hash_after digest_bytes md5
 sets_read = refl
 
 -- which NAL units follow one another
@@ -107,7 +107,7 @@ orders =
     (sets_8x8 ++ grey_idr ++ (0x00 ∷ 0x00 ∷ 0x00 ∷ 0x01 ∷ 0x02 ∷ 0x01 ∷ 0xD0 ∷ 0x0C ∷ 0x5E ∷ 0x86 ∷ 0xE0 ∷ []) ++ (0x00 ∷ 0x00 ∷ 0x00 ∷ 0x01 ∷ 0x02 ∷ 0x01 ∷ 0xD0 ∷ 0x0C ∷ 0x5E ∷ 0x86 ∷ 0xE0 ∷ [])) ∷ []
 
 orders_read : map (λ stream. counted (decode stream)) orders ≡ Ok (size_of 8 8, 1) ∷ Err 3 ∷ Err 3 ∷ Err 4 ∷ Err 4 ∷ Err 3 ∷ Ok (size_of 8 8, 2) ∷ Ok (size_of 8 8, 4) ∷ Err 4 ∷ Err 5 ∷ []
-unfolding digits_up_to u value_after read_u read_ue_after read_alignment start lps_range next row_start start_codes slice_step segment_step hash_step step read_units decode engine_start doublings renormalised context_read bypass_read terminate_read aligned samples is_done read_fields hash_of_planes candidates mode_read vector_before merge predictors has_source difference_read whole_part vector_read moved_samples block_of rebuild slice_row_read segment_row_read row_of_bytes rows_read coding_unit_read ctu_read unescape_after payload forbidden next_start units_within units profile_tier_level vps_front vps_back sps_formats sps_front size_fields sps_back read_size read_sets coding_order neighbours is_filtered references angle inverse_angle predict stored_picture crop scan scan_kind last_context sub_block_context sig_context greater1_context greater2_context cbf in_rows residual_read cut_after substreams head_front head_middle dependent_fields read_offsets read_head read_segment_head split_context skip_context candidates_at block_words rounds compress hash_after digest_bytes md5
+unfolding digits_up_to u value_after read_u read_ue_after read_alignment start lps_range next row_start start_codes slice_step segment_step hash_step step read_units decode engine_start doublings renormalised context_read bypass_read terminate_read aligned samples is_done read_fields hash_of_planes candidates mode_read vector_before merge predictors has_source difference_read whole_part vector_read moved_samples block_of rebuild slice_row_read segment_row_read row_of_bytes rows_read coding_unit_read ctu_read unescape_after payload forbidden next_start units_within units profile_tier_level vps_front vps_back sps_formats sps_front size_fields sps_back read_size read_params coding_order neighbours is_filtered references angle inverse_angle predict stored_picture crop scan scan_kind last_context sub_block_context sig_context greater1_context greater2_context cbf in_rows residual_read cut_after substreams head_front head_middle dependent_fields read_offsets read_head read_segment_head split_context skip_context candidates_at block_words rounds compress hash_after digest_bytes md5
 orders_read = refl
 
 -- hashes
@@ -127,7 +127,7 @@ hashes =
     (sets_8x8 ++ (0x00 ∷ 0x00 ∷ 0x00 ∷ 0x01 ∷ 0x28 ∷ 0x01 ∷ 0xAF ∷ 0x80 ∷ 0x46 ∷ 0xC0 ∷ 0x00 ∷ 0x00 ∷ 0x03 ∷ 0x00 ∷ 0x00 ∷ 0x03 ∷ 0x00 ∷ 0x00 ∷ 0x03 ∷ 0x00 ∷ 0x00 ∷ 0x03 ∷ 0x00 ∷ 0x00 ∷ 0x03 ∷ 0x00 ∷ 0x00 ∷ 0x03 ∷ 0x00 ∷ 0x00 ∷ 0x03 ∷ 0x00 ∷ 0x00 ∷ 0x03 ∷ 0x00 ∷ 0x00 ∷ 0x03 ∷ 0x00 ∷ 0x00 ∷ 0x03 ∷ 0x00 ∷ 0x00 ∷ 0x03 ∷ 0x00 ∷ 0x00 ∷ 0x03 ∷ 0x00 ∷ 0x00 ∷ 0x03 ∷ 0x00 ∷ 0x00 ∷ 0x03 ∷ 0x00 ∷ 0x00 ∷ 0x03 ∷ 0x00 ∷ 0x00 ∷ 0x03 ∷ 0x00 ∷ 0x00 ∷ 0x03 ∷ 0x00 ∷ 0x00 ∷ 0x03 ∷ 0x00 ∷ 0x00 ∷ 0x03 ∷ 0x00 ∷ 0x00 ∷ 0x03 ∷ 0x00 ∷ 0x00 ∷ 0x03 ∷ 0x00 ∷ 0x00 ∷ 0x03 ∷ 0x00 ∷ 0x00 ∷ 0x03 ∷ 0x00 ∷ 0x00 ∷ 0x03 ∷ 0x00 ∷ 0x00 ∷ 0x03 ∷ 0x00 ∷ 0x00 ∷ 0x03 ∷ 0x00 ∷ 0x00 ∷ 0x03 ∷ 0x00 ∷ 0x00 ∷ 0x03 ∷ 0x00 ∷ 0x00 ∷ 0x03 ∷ 0x00 ∷ 0x00 ∷ 0x03 ∷ 0x00 ∷ 0x00 ∷ 0x03 ∷ 0x00 ∷ 0x00 ∷ 0x03 ∷ 0x00 ∷ 0x00 ∷ 0x03 ∷ 0x00 ∷ 0x00 ∷ 0x03 ∷ 0x00 ∷ 0x00 ∷ 0x03 ∷ 0x00 ∷ 0x00 ∷ 0x03 ∷ 0x00 ∷ 0x00 ∷ 0x03 ∷ 0x00 ∷ 0x00 ∷ 0x03 ∷ 0x00 ∷ 0x00 ∷ 0x03 ∷ 0x00 ∷ 0x00 ∷ 0x03 ∷ 0x00 ∷ 0x00 ∷ 0x03 ∷ 0x00 ∷ 0x00 ∷ 0x03 ∷ 0x00 ∷ 0x00 ∷ 0x03 ∷ 0x00 ∷ 0x00 ∷ 0x03 ∷ 0x00 ∷ 0x00 ∷ 0x03 ∷ 0x00 ∷ 0x00 ∷ 0x03 ∷ 0x00 ∷ 0x00 ∷ 0x03 ∷ 0x00 ∷ 0x00 ∷ 0x03 ∷ 0x00 ∷ 0x00 ∷ 0x03 ∷ 0x00 ∷ 0x00 ∷ 0x03 ∷ 0x00 ∷ 0x00 ∷ 0x03 ∷ 0x00 ∷ 0x00 ∷ 0x03 ∷ 0x00 ∷ 0x00 ∷ 0x03 ∷ 0x00 ∷ 0x00 ∷ 0x03 ∷ 0x00 ∷ 0x00 ∷ 0x03 ∷ 0x00 ∷ 0x00 ∷ 0x03 ∷ 0x00 ∷ 0x00 ∷ 0x03 ∷ 0x00 ∷ 0x00 ∷ 0x03 ∷ 0x00 ∷ 0x00 ∷ 0x03 ∷ 0x00 ∷ 0x00 ∷ 0x03 ∷ 0x00 ∷ 0x00 ∷ 0x03 ∷ 0x00 ∷ 0x00 ∷ 0x03 ∷ 0x00 ∷ 0x00 ∷ 0x03 ∷ 0x00 ∷ 0x00 ∷ 0x03 ∷ 0x00 ∷ 0x00 ∷ 0x03 ∷ 0x00 ∷ 0x00 ∷ 0x03 ∷ 0x00 ∷ 0x00 ∷ 0x03 ∷ 0x00 ∷ 0x00 ∷ 0x03 ∷ 0x00 ∷ 0x00 ∷ 0x03 ∷ 0x00 ∷ 0x00 ∷ 0x03 ∷ 0x00 ∷ 0x00 ∷ 0x03 ∷ 0x00 ∷ 0x00 ∷ 0x03 ∷ 0x00 ∷ 0x00 ∷ 0x03 ∷ 0x00 ∷ 0x00 ∷ 0x03 ∷ 0x00 ∷ 0x00 ∷ 0x03 ∷ 0x00 ∷ 0x00 ∷ 0x03 ∷ 0x00 ∷ 0x00 ∷ 0x03 ∷ 0x00 ∷ 0x00 ∷ 0x03 ∷ 0x00 ∷ 0x00 ∷ 0x03 ∷ 0x00 ∷ 0x00 ∷ 0x03 ∷ 0x00 ∷ 0x00 ∷ 0x03 ∷ 0x00 ∷ 0x00 ∷ 0x03 ∷ 0x00 ∷ 0x00 ∷ 0x03 ∷ 0x00 ∷ 0x00 ∷ 0x03 ∷ 0x00 ∷ 0x00 ∷ 0x03 ∷ 0x00 ∷ 0x00 ∷ 0x03 ∷ 0x00 ∷ 0x00 ∷ 0x03 ∷ 0x00 ∷ 0x00 ∷ 0x03 ∷ 0x00 ∷ 0x00 ∷ 0x03 ∷ 0x00 ∷ 0x00 ∷ 0x03 ∷ 0x00 ∷ 0x00 ∷ 0x03 ∷ 0x00 ∷ 0x00 ∷ 0x03 ∷ 0x00 ∷ 0x00 ∷ 0x03 ∷ 0x00 ∷ 0x00 ∷ 0x03 ∷ 0x00 ∷ 0x00 ∷ 0x03 ∷ 0x00 ∷ 0x00 ∷ 0xFE ∷ 0x80 ∷ []) ++ (0x00 ∷ 0x00 ∷ 0x00 ∷ 0x01 ∷ 0x02 ∷ 0x01 ∷ 0xD0 ∷ 0x0C ∷ 0x5E ∷ 0x60 ∷ 0x7E ∷ 0x30 ∷ []) ++ (0x00 ∷ 0x00 ∷ 0x00 ∷ 0x01 ∷ 0x50 ∷ 0x01 ∷ 0x84 ∷ 0x31 ∷ 0x00 ∷ 0x3B ∷ 0x5D ∷ 0x3C ∷ 0x7D ∷ 0x20 ∷ 0x7E ∷ 0x37 ∷ 0xDC ∷ 0xEE ∷ 0xED ∷ 0xD3 ∷ 0x01 ∷ 0xE3 ∷ 0x5E ∷ 0x2E ∷ 0x58 ∷ 0x3B ∷ 0x5D ∷ 0x3C ∷ 0x7D ∷ 0x20 ∷ 0x7E ∷ 0x37 ∷ 0xDC ∷ 0xEE ∷ 0xED ∷ 0xD3 ∷ 0x01 ∷ 0xE3 ∷ 0x5E ∷ 0x2E ∷ 0x58 ∷ 0x3B ∷ 0x5D ∷ 0x3C ∷ 0x7D ∷ 0x20 ∷ 0x7E ∷ 0x37 ∷ 0xDC ∷ 0xEE ∷ 0xED ∷ 0xD3 ∷ 0x01 ∷ 0xE3 ∷ 0x5E ∷ 0x2E ∷ 0x58 ∷ 0x80 ∷ [])) ∷ []
 
 hashes_read : map (λ stream. counted (decode stream)) hashes ≡ Ok (size_of 8 8, 1) ∷ Err 4 ∷ Err 5 ∷ Err 4 ∷ Err 4 ∷ Err 5 ∷ []
-unfolding digits_up_to u value_after read_u read_ue_after read_alignment start lps_range next row_start start_codes slice_step segment_step hash_step step read_units decode engine_start doublings renormalised context_read bypass_read terminate_read aligned samples is_done read_fields hash_of_planes candidates mode_read vector_before merge predictors has_source difference_read whole_part vector_read moved_samples block_of rebuild slice_row_read segment_row_read row_of_bytes rows_read coding_unit_read ctu_read unescape_after payload forbidden next_start units_within units profile_tier_level vps_front vps_back sps_formats sps_front size_fields sps_back read_size read_sets coding_order neighbours is_filtered references angle inverse_angle predict stored_picture crop scan scan_kind last_context sub_block_context sig_context greater1_context greater2_context cbf in_rows residual_read cut_after substreams head_front head_middle dependent_fields read_offsets read_head read_segment_head split_context skip_context candidates_at block_words rounds compress hash_after digest_bytes md5
+unfolding digits_up_to u value_after read_u read_ue_after read_alignment start lps_range next row_start start_codes slice_step segment_step hash_step step read_units decode engine_start doublings renormalised context_read bypass_read terminate_read aligned samples is_done read_fields hash_of_planes candidates mode_read vector_before merge predictors has_source difference_read whole_part vector_read moved_samples block_of rebuild slice_row_read segment_row_read row_of_bytes rows_read coding_unit_read ctu_read unescape_after payload forbidden next_start units_within units profile_tier_level vps_front vps_back sps_formats sps_front size_fields sps_back read_size read_params coding_order neighbours is_filtered references angle inverse_angle predict stored_picture crop scan scan_kind last_context sub_block_context sig_context greater1_context greater2_context cbf in_rows residual_read cut_after substreams head_front head_middle dependent_fields read_offsets read_head read_segment_head split_context skip_context candidates_at block_words rounds compress hash_after digest_bytes md5
 hashes_read = refl
 
 -- slice segment headers
@@ -149,7 +149,7 @@ heads =
     (sets_8x8 ++ (0x00 ∷ 0x00 ∷ 0x00 ∷ 0x01 ∷ 0x28 ∷ 0x01 ∷ 0xAF ∷ 0x80 ∷ [])) ∷ []
 
 heads_read : map (λ stream. counted (decode stream)) heads ≡ Err 4 ∷ Err 4 ∷ Err 3 ∷ Err 3 ∷ Err 4 ∷ Err 3 ∷ Err 3 ∷ []
-unfolding digits_up_to u value_after read_u read_ue_after read_alignment start lps_range next row_start start_codes slice_step segment_step hash_step step read_units decode engine_start doublings renormalised context_read bypass_read terminate_read aligned samples is_done read_fields hash_of_planes candidates mode_read vector_before merge predictors has_source difference_read whole_part vector_read moved_samples block_of rebuild slice_row_read segment_row_read row_of_bytes rows_read coding_unit_read ctu_read unescape_after payload forbidden next_start units_within units profile_tier_level vps_front vps_back sps_formats sps_front size_fields sps_back read_size read_sets coding_order neighbours is_filtered references angle inverse_angle predict stored_picture crop scan scan_kind last_context sub_block_context sig_context greater1_context greater2_context cbf in_rows residual_read cut_after substreams head_front head_middle dependent_fields read_offsets read_head read_segment_head split_context skip_context candidates_at block_words rounds compress hash_after digest_bytes md5
+unfolding digits_up_to u value_after read_u read_ue_after read_alignment start lps_range next row_start start_codes slice_step segment_step hash_step step read_units decode engine_start doublings renormalised context_read bypass_read terminate_read aligned samples is_done read_fields hash_of_planes candidates mode_read vector_before merge predictors has_source difference_read whole_part vector_read moved_samples block_of rebuild slice_row_read segment_row_read row_of_bytes rows_read coding_unit_read ctu_read unescape_after payload forbidden next_start units_within units profile_tier_level vps_front vps_back sps_formats sps_front size_fields sps_back read_size read_params coding_order neighbours is_filtered references angle inverse_angle predict stored_picture crop scan scan_kind last_context sub_block_context sig_context greater1_context greater2_context cbf in_rows residual_read cut_after substreams head_front head_middle dependent_fields read_offsets read_head read_segment_head split_context skip_context candidates_at block_words rounds compress hash_after digest_bytes md5
 heads_read = refl
 
 -- the ends of slice segment data, and samples
@@ -179,7 +179,7 @@ ends =
     (sets_8x8 ++ (0x00 ∷ 0x00 ∷ 0x00 ∷ 0x01 ∷ 0x28 ∷ 0x01 ∷ 0xAF ∷ 0x80 ∷ 0x46 ∷ 0xC0 ∷ 0x00 ∷ 0x01 ∷ 0x02 ∷ 0x03 ∷ 0x04 ∷ 0x05 ∷ 0x06 ∷ 0x07 ∷ 0x08 ∷ 0x09 ∷ 0x0A ∷ 0x0B ∷ 0x0C ∷ 0x0D ∷ 0x0E ∷ 0x0F ∷ 0x10 ∷ 0x11 ∷ 0x12 ∷ 0x13 ∷ 0x14 ∷ 0x15 ∷ 0x16 ∷ 0x17 ∷ 0x18 ∷ 0x19 ∷ 0x1A ∷ 0x1B ∷ 0x1C ∷ 0x1D ∷ 0x1E ∷ 0x1F ∷ 0x20 ∷ 0x21 ∷ 0x22 ∷ 0x23 ∷ 0x24 ∷ 0x25 ∷ 0x26 ∷ 0x27 ∷ 0x28 ∷ 0x29 ∷ 0x2A ∷ 0x2B ∷ 0x2C ∷ 0x2D ∷ 0x2E ∷ 0x2F ∷ 0x30 ∷ 0x31 ∷ 0x32 ∷ 0x33 ∷ 0x34 ∷ 0x35 ∷ 0x36 ∷ 0x37 ∷ 0x38 ∷ 0x39 ∷ 0x3A ∷ 0x3B ∷ 0x3C ∷ 0x3D ∷ 0x3E ∷ 0x3F ∷ 0x40 ∷ 0x41 ∷ 0x42 ∷ 0x43 ∷ 0x44 ∷ 0x45 ∷ 0x46 ∷ 0x47 ∷ 0x48 ∷ 0x49 ∷ 0x4A ∷ 0x4B ∷ 0x4C ∷ 0x4D ∷ 0x4E ∷ 0x4F ∷ 0x50 ∷ 0x51 ∷ 0x52 ∷ 0x53 ∷ 0x54 ∷ 0x55 ∷ 0x56 ∷ 0x57 ∷ 0x58 ∷ 0x59 ∷ 0x5A ∷ 0x5B ∷ 0x5C ∷ 0x5D ∷ 0x5E ∷ 0x5F ∷ 0x60 ∷ 0x61 ∷ 0x62 ∷ 0x63 ∷ 0x64 ∷ 0x65 ∷ 0x66 ∷ 0x67 ∷ 0x68 ∷ 0x69 ∷ 0x6A ∷ 0x6B ∷ 0x6C ∷ 0x6D ∷ 0x6E ∷ 0x6F ∷ 0x70 ∷ 0x71 ∷ 0x72 ∷ 0x73 ∷ 0x74 ∷ 0x75 ∷ 0x76 ∷ 0x77 ∷ 0x78 ∷ 0x79 ∷ 0x7A ∷ 0x7B ∷ 0x7C ∷ 0x7D ∷ 0x7E ∷ 0x7F ∷ 0x80 ∷ 0x81 ∷ 0x82 ∷ 0x83 ∷ 0x84 ∷ 0x85 ∷ 0x86 ∷ 0x87 ∷ 0x88 ∷ 0x89 ∷ 0x8A ∷ 0x8B ∷ 0x8C ∷ 0x8D ∷ 0x8E ∷ 0x8F ∷ 0x90 ∷ 0x91 ∷ 0x92 ∷ 0x93 ∷ 0x94 ∷ 0x95 ∷ 0x96 ∷ 0x97 ∷ 0x98 ∷ 0x99 ∷ 0x9A ∷ 0x9B ∷ 0x9C ∷ 0x9D ∷ 0x9E ∷ 0x9F ∷ 0xA0 ∷ 0xA1 ∷ 0xA2 ∷ 0xA3 ∷ 0xA4 ∷ 0xA5 ∷ 0xA6 ∷ 0xA7 ∷ 0xA8 ∷ 0xA9 ∷ 0xAA ∷ 0xAB ∷ 0xAC ∷ 0xAD ∷ 0xAE ∷ 0xAF ∷ 0xB0 ∷ 0xB1 ∷ 0xB2 ∷ 0xB3 ∷ 0xB4 ∷ 0xB5 ∷ 0xB6 ∷ 0xB7 ∷ 0xB8 ∷ 0xB9 ∷ 0xBA ∷ 0xBB ∷ 0xBC ∷ 0xBD ∷ 0xBE ∷ 0xBF ∷ 0xFF ∷ 0x80 ∷ [])) ∷ []
 
 ends_read : map (λ stream. counted (decode stream)) ends ≡ Err 3 ∷ Err 3 ∷ Err 4 ∷ Err 3 ∷ Err 3 ∷ Err 3 ∷ Ok (size_of 8 8, 1) ∷ Err 3 ∷ Err 3 ∷ Err 3 ∷ Err 3 ∷ []
-unfolding digits_up_to u value_after read_u read_ue_after read_alignment start lps_range next row_start start_codes slice_step segment_step hash_step step read_units decode engine_start doublings renormalised context_read bypass_read terminate_read aligned samples is_done read_fields hash_of_planes candidates mode_read vector_before merge predictors has_source difference_read whole_part vector_read moved_samples block_of rebuild slice_row_read segment_row_read row_of_bytes rows_read coding_unit_read ctu_read unescape_after payload forbidden next_start units_within units profile_tier_level vps_front vps_back sps_formats sps_front size_fields sps_back read_size read_sets coding_order neighbours is_filtered references angle inverse_angle predict stored_picture crop scan scan_kind last_context sub_block_context sig_context greater1_context greater2_context cbf in_rows residual_read cut_after substreams head_front head_middle dependent_fields read_offsets read_head read_segment_head split_context skip_context candidates_at block_words rounds compress hash_after digest_bytes md5
+unfolding digits_up_to u value_after read_u read_ue_after read_alignment start lps_range next row_start start_codes slice_step segment_step hash_step step read_units decode engine_start doublings renormalised context_read bypass_read terminate_read aligned samples is_done read_fields hash_of_planes candidates mode_read vector_before merge predictors has_source difference_read whole_part vector_read moved_samples block_of rebuild slice_row_read segment_row_read row_of_bytes rows_read coding_unit_read ctu_read unescape_after payload forbidden next_start units_within units profile_tier_level vps_front vps_back sps_formats sps_front size_fields sps_back read_size read_params coding_order neighbours is_filtered references angle inverse_angle predict stored_picture crop scan scan_kind last_context sub_block_context sig_context greater1_context greater2_context cbf in_rows residual_read cut_after substreams head_front head_middle dependent_fields read_offsets read_head read_segment_head split_context skip_context candidates_at block_words rounds compress hash_after digest_bytes md5
 ends_read = refl
 
 -- coding units in I slices
@@ -199,7 +199,7 @@ intra_units =
     (sets_8x8 ++ (0x00 ∷ 0x00 ∷ 0x00 ∷ 0x01 ∷ 0x28 ∷ 0x01 ∷ 0xAF ∷ 0x80 ∷ 0x14 ∷ 0xAE ∷ 0x83 ∷ 0xFF ∷ 0xE8 ∷ 0x40 ∷ 0x05 ∷ 0xEC ∷ [])) ∷ []
 
 intra_units_read : map (λ stream. counted (decode stream)) intra_units ≡ Err 3 ∷ Err 3 ∷ Err 3 ∷ Ok (size_of 8 8, 1) ∷ Err 3 ∷ Err 3 ∷ []
-unfolding digits_up_to u value_after read_u read_ue_after read_alignment start lps_range next row_start start_codes slice_step segment_step hash_step step read_units decode engine_start doublings renormalised context_read bypass_read terminate_read aligned samples is_done read_fields hash_of_planes candidates mode_read vector_before merge predictors has_source difference_read whole_part vector_read moved_samples block_of rebuild slice_row_read segment_row_read row_of_bytes rows_read coding_unit_read ctu_read unescape_after payload forbidden next_start units_within units profile_tier_level vps_front vps_back sps_formats sps_front size_fields sps_back read_size read_sets coding_order neighbours is_filtered references angle inverse_angle predict stored_picture crop scan scan_kind last_context sub_block_context sig_context greater1_context greater2_context cbf in_rows residual_read cut_after substreams head_front head_middle dependent_fields read_offsets read_head read_segment_head split_context skip_context candidates_at block_words rounds compress hash_after digest_bytes md5
+unfolding digits_up_to u value_after read_u read_ue_after read_alignment start lps_range next row_start start_codes slice_step segment_step hash_step step read_units decode engine_start doublings renormalised context_read bypass_read terminate_read aligned samples is_done read_fields hash_of_planes candidates mode_read vector_before merge predictors has_source difference_read whole_part vector_read moved_samples block_of rebuild slice_row_read segment_row_read row_of_bytes rows_read coding_unit_read ctu_read unescape_after payload forbidden next_start units_within units profile_tier_level vps_front vps_back sps_formats sps_front size_fields sps_back read_size read_params coding_order neighbours is_filtered references angle inverse_angle predict stored_picture crop scan scan_kind last_context sub_block_context sig_context greater1_context greater2_context cbf in_rows residual_read cut_after substreams head_front head_middle dependent_fields read_offsets read_head read_segment_head split_context skip_context candidates_at block_words rounds compress hash_after digest_bytes md5
 intra_units_read = refl
 
 -- coding units in P slices
@@ -237,7 +237,7 @@ moved_units =
     (sets_16x8 ++ noise_idr ++ (0x00 ∷ 0x00 ∷ 0x00 ∷ 0x01 ∷ 0x02 ∷ 0x01 ∷ 0xD0 ∷ 0x0C ∷ 0x5E ∷ 0x2C ∷ 0xEB ∷ 0x42 ∷ 0x69 ∷ 0x28 ∷ [])) ∷ []
 
 moved_units_read : map (λ stream. counted (decode stream)) moved_units ≡ Ok (size_of 8 8, 2) ∷ Ok (size_of 8 8, 2) ∷ Err 4 ∷ Err 4 ∷ Err 4 ∷ Err 4 ∷ Err 4 ∷ Err 4 ∷ Err 4 ∷ Ok (size_of 8 8, 2) ∷ Err 4 ∷ Ok (size_of 16 8, 2) ∷ Err 4 ∷ Ok (size_of 16 8, 2) ∷ Err 4 ∷ []
-unfolding digits_up_to u value_after read_u read_ue_after read_alignment start lps_range next row_start start_codes slice_step segment_step hash_step step read_units decode engine_start doublings renormalised context_read bypass_read terminate_read aligned samples is_done read_fields hash_of_planes candidates mode_read vector_before merge predictors has_source difference_read whole_part vector_read moved_samples block_of rebuild slice_row_read segment_row_read row_of_bytes rows_read coding_unit_read ctu_read unescape_after payload forbidden next_start units_within units profile_tier_level vps_front vps_back sps_formats sps_front size_fields sps_back read_size read_sets coding_order neighbours is_filtered references angle inverse_angle predict stored_picture crop scan scan_kind last_context sub_block_context sig_context greater1_context greater2_context cbf in_rows residual_read cut_after substreams head_front head_middle dependent_fields read_offsets read_head read_segment_head split_context skip_context candidates_at block_words rounds compress hash_after digest_bytes md5
+unfolding digits_up_to u value_after read_u read_ue_after read_alignment start lps_range next row_start start_codes slice_step segment_step hash_step step read_units decode engine_start doublings renormalised context_read bypass_read terminate_read aligned samples is_done read_fields hash_of_planes candidates mode_read vector_before merge predictors has_source difference_read whole_part vector_read moved_samples block_of rebuild slice_row_read segment_row_read row_of_bytes rows_read coding_unit_read ctu_read unescape_after payload forbidden next_start units_within units profile_tier_level vps_front vps_back sps_formats sps_front size_fields sps_back read_size read_params coding_order neighbours is_filtered references angle inverse_angle predict stored_picture crop scan scan_kind last_context sub_block_context sig_context greater1_context greater2_context cbf in_rows residual_read cut_after substreams head_front head_middle dependent_fields read_offsets read_head read_segment_head split_context skip_context candidates_at block_words rounds compress hash_after digest_bytes md5
 moved_units_read = refl
 
 -- rows with entry points
@@ -261,7 +261,7 @@ entries =
     (sets_40x40 ++ (0x00 ∷ 0x00 ∷ 0x00 ∷ 0x01 ∷ 0x28 ∷ 0x01 ∷ 0xAE ∷ 0x81 ∷ 0x00 ∷ 0x00 ∷ 0x03 ∷ 0x00 ∷ 0x00 ∷ 0x34 ∷ 0x14 ∷ 0xB8 ∷ 0x9E ∷ 0xFF ∷ 0xF0 ∷ 0xCF ∷ 0x40 ∷ 0x14 ∷ 0xB8 ∷ 0xAA ∷ 0xD6 ∷ 0x64 ∷ 0x6B ∷ 0xC0 ∷ [])) ∷ []
 
 entries_read : map (λ stream. counted (decode stream)) entries ≡ Ok (size_of 40 40, 1) ∷ Err 3 ∷ Err 3 ∷ Err 3 ∷ Err 3 ∷ Err 3 ∷ Err 3 ∷ Err 3 ∷ []
-unfolding digits_up_to u value_after read_u read_ue_after read_alignment start lps_range next row_start start_codes slice_step segment_step hash_step step read_units decode engine_start doublings renormalised context_read bypass_read terminate_read aligned samples is_done read_fields hash_of_planes candidates mode_read vector_before merge predictors has_source difference_read whole_part vector_read moved_samples block_of rebuild slice_row_read segment_row_read row_of_bytes rows_read coding_unit_read ctu_read unescape_after payload forbidden next_start units_within units profile_tier_level vps_front vps_back sps_formats sps_front size_fields sps_back read_size read_sets coding_order neighbours is_filtered references angle inverse_angle predict stored_picture crop scan scan_kind last_context sub_block_context sig_context greater1_context greater2_context cbf in_rows residual_read cut_after substreams head_front head_middle dependent_fields read_offsets read_head read_segment_head split_context skip_context candidates_at block_words rounds compress hash_after digest_bytes md5
+unfolding digits_up_to u value_after read_u read_ue_after read_alignment start lps_range next row_start start_codes slice_step segment_step hash_step step read_units decode engine_start doublings renormalised context_read bypass_read terminate_read aligned samples is_done read_fields hash_of_planes candidates mode_read vector_before merge predictors has_source difference_read whole_part vector_read moved_samples block_of rebuild slice_row_read segment_row_read row_of_bytes rows_read coding_unit_read ctu_read unescape_after payload forbidden next_start units_within units profile_tier_level vps_front vps_back sps_formats sps_front size_fields sps_back read_size read_params coding_order neighbours is_filtered references angle inverse_angle predict stored_picture crop scan scan_kind last_context sub_block_context sig_context greater1_context greater2_context cbf in_rows residual_read cut_after substreams head_front head_middle dependent_fields read_offsets read_head read_segment_head split_context skip_context candidates_at block_words rounds compress hash_after digest_bytes md5
 entries_read = refl
 
 -- rows as segments
@@ -303,5 +303,5 @@ segments =
     (sets_40x40_segments ++ (0x00 ∷ 0x00 ∷ 0x00 ∷ 0x01 ∷ 0x28 ∷ 0x01 ∷ 0xAF ∷ 0x80 ∷ 0x14 ∷ 0xB8 ∷ 0x9E ∷ 0xFF ∷ 0xF0 ∷ 0xCF ∷ 0xC0 ∷ 0x00 ∷ 0x00 ∷ 0x00 ∷ 0x01 ∷ 0x02 ∷ 0x01 ∷ 0x76 ∷ 0x01 ∷ 0x05 ∷ [])) ∷ []
 
 segments_read : map (λ stream. counted (decode stream)) segments ≡ Ok (size_of 40 40, 1) ∷ Err 4 ∷ Err 5 ∷ Err 3 ∷ Err 4 ∷ Err 4 ∷ Err 4 ∷ Ok (size_of 40 40, 1) ∷ Err 3 ∷ Err 3 ∷ Err 4 ∷ Err 4 ∷ Err 4 ∷ Err 4 ∷ Err 4 ∷ Err 3 ∷ Err 4 ∷ []
-unfolding digits_up_to u value_after read_u read_ue_after read_alignment start lps_range next row_start start_codes slice_step segment_step hash_step step read_units decode engine_start doublings renormalised context_read bypass_read terminate_read aligned samples is_done read_fields hash_of_planes candidates mode_read vector_before merge predictors has_source difference_read whole_part vector_read moved_samples block_of rebuild slice_row_read segment_row_read row_of_bytes rows_read coding_unit_read ctu_read unescape_after payload forbidden next_start units_within units profile_tier_level vps_front vps_back sps_formats sps_front size_fields sps_back read_size read_sets coding_order neighbours is_filtered references angle inverse_angle predict stored_picture crop scan scan_kind last_context sub_block_context sig_context greater1_context greater2_context cbf in_rows residual_read cut_after substreams head_front head_middle dependent_fields read_offsets read_head read_segment_head split_context skip_context candidates_at block_words rounds compress hash_after digest_bytes md5
+unfolding digits_up_to u value_after read_u read_ue_after read_alignment start lps_range next row_start start_codes slice_step segment_step hash_step step read_units decode engine_start doublings renormalised context_read bypass_read terminate_read aligned samples is_done read_fields hash_of_planes candidates mode_read vector_before merge predictors has_source difference_read whole_part vector_read moved_samples block_of rebuild slice_row_read segment_row_read row_of_bytes rows_read coding_unit_read ctu_read unescape_after payload forbidden next_start units_within units profile_tier_level vps_front vps_back sps_formats sps_front size_fields sps_back read_size read_params coding_order neighbours is_filtered references angle inverse_angle predict stored_picture crop scan scan_kind last_context sub_block_context sig_context greater1_context greater2_context cbf in_rows residual_read cut_after substreams head_front head_middle dependent_fields read_offsets read_head read_segment_head split_context skip_context candidates_at block_words rounds compress hash_after digest_bytes md5
 segments_read = refl

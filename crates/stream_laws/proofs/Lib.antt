@@ -3,8 +3,6 @@ pub mod OldTree
 pub mod OldRows
 pub mod OldPictures
 pub mod OldStreams
-pub mod SetsLaw
-pub mod SetsSpelling
 pub mod StreamForm
 pub mod Behind
 pub mod Prefixes

@@ -7,7 +7,6 @@ use Rattle.h265_model.specs.Bits.{◌>>=◌ as and_then, bits, read_alignment}
 use Rattle.h265_model.specs.Bits.{◌>>-◌}
 use Rattle.h265_model.specs.NalUnits.{NalUnit}
 use Rattle.h265_model.specs.Fields.{Field, U, fixed, golomb, read_field, read_fields, read_trailing, or_number}
-use Rattle.h265_model.specs.ParamSets.{BadParam, in_set, set_bits, read_fixed_set, read_sps, read_params, vps_fields, pps_front, pps_back, pps_fields, segments_flag, read_pps, read_sets}
 use Rattle.h265_model.specs.SliceHead.{Head, head_front, head_middle, read_poc, read_entries, read_head}
 use Rattle.h265_model.specs.Stream.{nal_header, slice_kind}
 use Rattle.h265_laws.proofs.LeafDecoding.{read_data}
@@ -157,91 +156,3 @@ step_same size stand unit now h = go (bytes_eq unit.header (nal_header true)) (b
     go true b g = idr_same size stand unit.rbsp now g
     go false true g = trail stand.last refl g
     go false false g = absurd (cc)
-
--- ---- parameter sets
-
-fields-append : (a b : List Field) (bs : List Bool) → read_fields (a ++ b) bs ≡ (read_fields a bs >>- read_fields b)
-unfolding read_fields
-fields-append [] b bs = refl
-fields-append (f ∷ fs) b bs = go (λ left. fields-append fs b left) (read_field f.number f.coding bs)
-  where
-    go : ((left : List Bool) → read_fields (fs ++ b) left ≡ (read_fields fs left >>- read_fields b)) → (r : Result (ℕ × List Bool) ℕ)
-        → (r >>- λ found. cond (found.0 == f.value) (read_fields (fs ++ b) found.1) (Err f.number)) ≡ ((r >>- λ found. cond (found.0 == f.value) (read_fields fs found.1) (Err f.number)) >>- read_fields b)
-    go later (Err e) = refl
-    go later (Ok found) = test (found.0 == f.value)
-      where
-        test : (t : Bool) → cond t (read_fields (fs ++ b) found.1) (Err f.number) ≡ (cond t (read_fields fs found.1) (Err f.number) >>- read_fields b)
-        test true = later found.1
-        test false = refl
-
-first_field : (f : Field) (fs : List Field) (bs : List Bool) → read_fields (f ∷ fs) bs ≡ (read_field f.number f.coding bs >>- λ found. cond (found.0 == f.value) (read_fields fs found.1) (Err f.number))
-unfolding read_fields
-first_field f fs bs = refl
-
-pps_same : (size : Size) (unit : NalUnit) → read_fixed_set 0x44 pps_fields 31 unit ≡ Ok tt → read_pps size unit ≡ Ok false
-unfolding pps_fields
-pps_same size unit h = headed (set_bits 0x44 unit) h
-  where
-    rest : List Field
-    rest = fixed 3 1 0 ∷ pps_back
-
-    ended : (r : Result (Unit {0}) ℕ) → r ≡ Ok tt → (r >>- λ _. Ok false) ≡ Ok false
-    ended (Err e) g = absurd (cc)
-    ended (Ok x) g = refl
-
-    back : (r : Result (List Bool) ℕ) → (r >>- λ left. read_trailing 31 left) ≡ Ok tt → (r >>- λ left. read_trailing 31 left >>- λ _. Ok false) ≡ Ok false
-    back (Err e) g = absurd (cc)
-    back (Ok left) g = ended (read_trailing 31 left) g
-
-    flagged : (found : ℕ × List Bool) (t : Bool) → (cond t (read_fields pps_back found.1) (Err 3) >>- λ left. read_trailing 31 left) ≡ Ok tt
-        → (cond t (Ok (false, found.1)) (cond (nat_lt 32 (coded size.w)) (Ok (true, found.1)) (Err 3)) >>- λ (s : Bool × List Bool). read_fields pps_back s.1 >>- λ left. read_trailing 31 left >>- λ _. Ok s.0) ≡ Ok false
-    flagged found true g = back (read_fields pps_back found.1) g
-    flagged found false g = absurd (cc)
-
-    field : (r : Result (ℕ × List Bool) ℕ) → ((r >>- λ found. cond (found.0 == 0) (read_fields pps_back found.1) (Err 3)) >>- λ left. read_trailing 31 left) ≡ Ok tt
-        → ((r >>- λ found. cond (found.0 == 0) (Ok (false, found.1)) (cond (nat_lt 32 (coded size.w)) (Ok (true, found.1)) (Err 3))) >>- λ (s : Bool × List Bool). read_fields pps_back s.1 >>- λ left. read_trailing 31 left >>- λ _. Ok s.0) ≡ Ok false
-    field (Err e) g = absurd (cc)
-    field (Ok found) g = flagged found (found.0 == 0) g
-
-    after_front : (r : Result (List Bool) ℕ) → ((r >>- read_fields rest) >>- λ left. read_trailing 31 left) ≡ Ok tt
-        → (r >>- λ bs. segments_flag size bs >>- λ s. read_fields pps_back s.1 >>- λ left. read_trailing 31 left >>- λ _. Ok s.0) ≡ Ok false
-    after_front (Err e) g = absurd (cc)
-    after_front (Ok bs) g = field (read_field 3 (U 1) bs) (sym (ap (λ r. r >>- λ left. read_trailing 31 left) (first_field (fixed 3 1 0) pps_back bs)) ∙ g)
-
-    headed : (r : Result (List Bool) ℕ) → (r >>- λ bs. read_fields (pps_front ++ rest) bs >>- λ left. read_trailing 31 left) ≡ Ok tt
-        → (r >>- λ bs. read_fields pps_front bs >>- λ bs. segments_flag size bs >>- λ s. read_fields pps_back s.1 >>- λ left. read_trailing 31 left >>- λ _. Ok s.0) ≡ Ok false
-    headed (Err e) g = absurd (cc)
-    headed (Ok bs) g = after_front (read_fields pps_front bs) (sym (ap (λ r. r >>- λ left. read_trailing 31 left) (fields-append pps_front rest bs)) ∙ g)
-
-abbrev paired : Size → Bool → Result (Size × Bool) BadParam
-paired size segments = Ok (size, segments)
-
-pub sets_same : (us : List NalUnit) (size : Size) → read_params us ≡ Ok size → read_sets us ≡ Ok (size, false)
-unfolding read_params read_sets
-sets_same [] size h = absurd (cc)
-sets_same (a ∷ []) size h = absurd (cc)
-sets_same (a ∷ b ∷ []) size h = absurd (cc)
-sets_same (vps ∷ sps ∷ pps ∷ []) size h = first (read_fixed_set 0x40 vps_fields 17 vps) h
-  where
-    third : (found : Size) (r : Result (Unit {0}) ℕ) → read_fixed_set 0x44 pps_fields 31 pps ≡ r → (in_set 2 r >>- λ _. Ok found) ≡ Ok size
-        → (in_set 2 (read_pps found pps) >>- paired found) ≡ Ok (size, false)
-    third found (Err e) q g = absurd (cc)
-    third found (Ok x) q g =
-        ap (λ (s : Result Bool ℕ). in_set 2 s >>- paired found) (pps_same found pps q) ∙ ap turned g
-      where
-        turned : Result Size BadParam → Result (Size × Bool) BadParam
-        turned (Ok s) = Ok (s, false)
-        turned (Err e) = Err e
-
-    second : (r : Result Size ℕ) → (in_set 1 r >>- λ found. in_set 2 (read_fixed_set 0x44 pps_fields 31 pps) >>- λ _. Ok found) ≡ Ok size
-        → (in_set 1 r >>- λ found. in_set 2 (read_pps found pps) >>- paired found) ≡ Ok (size, false)
-    second (Err e) g = absurd (cc)
-    second (Ok found) g = third found (read_fixed_set 0x44 pps_fields 31 pps) refl g
-
-    first : (r : Result (Unit {0}) ℕ) → (in_set 0 r >>- λ _. in_set 1 (read_sps sps) >>- λ found. in_set 2 (read_fixed_set 0x44 pps_fields 31 pps) >>- λ _. Ok found) ≡ Ok size
-        → (in_set 0 r >>- λ _. in_set 1 (read_sps sps) >>- λ found. in_set 2 (read_pps found pps) >>- paired found) ≡ Ok (size, false)
-    first (Err e) g = absurd (cc)
-    first (Ok x) g = second (read_sps sps) g
-sets_same (a ∷ b ∷ c ∷ d ∷ us) size h = absurd (cc)
-
--- ---- streams

@@ -18,7 +18,7 @@ use Rattle.h265_laws.proofs.PictureLaw.{IsFit, size_fits, cropped}
 use Rattle.h265_laws.proofs.StreamLaw.{picture_unit, IsFollowing, decoded_as, picture_is_read, piece_is_unit, unit_is}
 use Rattle.stream_laws.specs.Laws.{EachPlainStreamIsDecoded}
 use Rattle.stream_laws.proofs.Ties.{streams_are_plain}
-use Rattle.stream_laws.proofs.SetsLaw.{sets_are_read}
+use Rattle.h265_laws.proofs.ParamLaws.{read_params-param_units}
 use Rattle.stream_laws.proofs.OldStreams.{now_whole, step_same}
 use Rattle.stream_laws.proofs.StreamForm.{one_step, ReadsOn, AreRead, stream_is_decoded}
 
@@ -54,7 +54,7 @@ pub plain_streams_are_decoded : EachPlainStreamIsDecoded
 plain_streams_are_decoded settings rasters size_is are =
     stream_is_decoded settings Plain (plain_units settings)
     (plain_are_read settings (size_fits settings.size size_is) (in_limits settings.size size_is).w_low)
-    (sets_are_read settings.size false size_is (λ e. absurd (cc))) rasters are
+    (read_params-param_units settings.size false size_is (λ e. absurd (cc))) rasters are
 
 -- the same of the stream in the words of plain pictures
 pub each_stream_is_decoded : (settings : Settings) (rasters : List Raster) → IsTrue (is_size settings.size) → AllByRecursion (IsRaster settings.size) rasters

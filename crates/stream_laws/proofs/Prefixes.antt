@@ -4,7 +4,7 @@ use Rattle.h265_model.specs.declared.extra.Extra.{Extra}
 use Rattle.h265_model.specs.Settings.{Settings}
 use Rattle.h265_model.specs.Raster.{Raster}
 use Rattle.h265_model.specs.NalUnits.{stream_bytes}
-use Rattle.h265_model.specs.ParamSets.{set_units}
+use Rattle.h265_model.specs.ParamSets.{param_units}
 use Rattle.h265_model.specs.ExtraStream.{has_segments, extra_piece, extra_pieces_after, extra_pieces}
 use Rattle.stream_laws.specs.Laws.{EachPieceIsKept}
 
@@ -20,4 +20,4 @@ pub pieces_are_kept : EachPieceIsKept
 unfolding extra_pieces
 pieces_are_kept settings extra ps qs =
     let others = after-append settings extra 0 None ps qs in
-    (others.0, ap (λ l. stream_bytes (set_units settings.size (has_segments extra)) ∷ l) others.1)
+    (others.0, ap (λ l. stream_bytes (param_units settings.size (has_segments extra)) ∷ l) others.1)

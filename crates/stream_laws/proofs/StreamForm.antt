@@ -10,14 +10,14 @@ use Rattle.h265_model.specs.Bits.{◌>>-◌}
 use Rattle.h265_model.specs.Settings.{Settings}
 use Rattle.h265_model.specs.Raster.{Raster, IsRaster}
 use Rattle.h265_model.specs.NalUnits.{NalUnit, IsNalUnit, nal_unit_bytes, stream_bytes, units}
-use Rattle.h265_model.specs.ParamSets.{vps_fields, sps_fields, pps_fields_of, set_units, read_sets}
+use Rattle.h265_model.specs.ParamSets.{vps_fields, sps_fields, pps_fields, param_units, read_params}
 use Rattle.h265_model.specs.Stream.{order_count, nal_header}
 use Rattle.h265_model.specs.Decode.{Decoded}
 use Rattle.h265_model.specs.ExtraStream.{has_segments, extra_piece, extra_pieces_after, extra_pieces, extra_stream}
 use Rattle.h265_model.specs.Decode.{Stand, Begun, at_first, at_end, step, shown, at_number, read_units, sets_or_number, decode}
 use Rattle.h265_model.proofs.UnitLaws.{units-stream_bytes}
 use Rattle.h265_model.proofs.ListParts.{all_append}
-use Rattle.h265_laws.proofs.ParamLaws.{set_unit_is}
+use Rattle.h265_laws.proofs.ParamLaws.{param_units_are}
 use Rattle.h265_laws.proofs.StreamLaw.{IsFollowing, decoded_as, units_found}
 
 -- ---- one NAL unit
@@ -95,37 +95,33 @@ module _ (settings : Settings) (extra : Extra) (units_for : ℕ → Option Raste
       all_append IsNalUnit (units_for n before raster) (all_units (n + 1) (Some raster) rasters) (each.are n before raster is.0) (units_are (n + 1) (Some raster) rasters is.1)
 
   stream_is : (rasters : List Raster) → AllByRecursion (IsRaster settings.size) rasters
-      → extra_stream settings extra rasters ≡ stream_bytes (set_units settings.size (has_segments extra) ++ all_units 0 None rasters)
+      → extra_stream settings extra rasters ≡ stream_bytes (param_units settings.size (has_segments extra) ++ all_units 0 None rasters)
   unfolding extra_stream extra_pieces stream_bytes
   stream_is rasters is =
-      ap (λ (l : List ℕ). flat_map nal_unit_bytes (set_units settings.size (has_segments extra)) ++ l) (pieces_are_units 0 None rasters is)
-      ∙ sym (flat_map-append nal_unit_bytes (set_units settings.size (has_segments extra)) (all_units 0 None rasters))
+      ap (λ (l : List ℕ). flat_map nal_unit_bytes (param_units settings.size (has_segments extra)) ++ l) (pieces_are_units 0 None rasters is)
+      ∙ sym (flat_map-append nal_unit_bytes (param_units settings.size (has_segments extra)) (all_units 0 None rasters))
 
-set_units_are : (size : Size) (segments : Bool) → AllByRecursion IsNalUnit (set_units size segments)
-unfolding set_units
-set_units_are size segments = (set_unit_is 0x40 vps_fields, (set_unit_is 0x42 (sps_fields size), (set_unit_is 0x44 (pps_fields_of segments), tt)))
+sets_found : (size : Size) (segments : Bool) (rest : List NalUnit) → read_params (param_units size segments) ≡ Ok (size, segments) → sets_or_number (param_units size segments ++ rest) ≡ Ok (size, segments)
+unfolding param_units
+sets_found size segments rest e = rw (le-ltb (length (param_units size segments ++ rest)) 3 (omega arith), e, sets_or_number) refl
 
-sets_found : (size : Size) (segments : Bool) (rest : List NalUnit) → read_sets (set_units size segments) ≡ Ok (size, segments) → sets_or_number (set_units size segments ++ rest) ≡ Ok (size, segments)
-unfolding set_units
-sets_found size segments rest e = rw (le-ltb (length (set_units size segments ++ rest)) 3 (omega arith), e, sets_or_number) refl
-
-rest_found : (size : Size) (segments : Bool) (rest : List NalUnit) → drop 3 (set_units size segments ++ rest) ≡ rest
-unfolding set_units
+rest_found : (size : Size) (segments : Bool) (rest : List NalUnit) → drop 3 (param_units size segments ++ rest) ≡ rest
+unfolding param_units
 rest_found size segments rest = refl
 
 -- the law of streams, where parameter sets are read back
 pub stream_is_decoded : (settings : Settings) (extra : Extra) (units_for : ℕ → Option Raster → Raster → List NalUnit) → AreRead settings extra units_for
-    → read_sets (set_units settings.size (has_segments extra)) ≡ Ok (settings.size, has_segments extra)
+    → read_params (param_units settings.size (has_segments extra)) ≡ Ok (settings.size, has_segments extra)
     → (rasters : List Raster) → AllByRecursion (IsRaster settings.size) rasters → decode (extra_stream settings extra rasters) ≡ Ok (settings.size, rasters)
 unfolding decode
 stream_is_decoded settings extra units_for each sets rasters is =
     let size : Size = settings.size in
     let segments : Bool = has_segments extra in
     let rest : List NalUnit = all_units settings extra units_for each 0 None rasters in
-    let us : List NalUnit = set_units size segments ++ rest in
+    let us : List NalUnit = param_units size segments ++ rest in
     let read : units (extra_stream settings extra rasters) ≡ Ok us =
     ap units (stream_is settings extra units_for each rasters is)
-    ∙ units-stream_bytes us (all_append IsNalUnit (set_units size segments) rest (set_units_are size segments) (units_are settings extra units_for each 0 None rasters is)) in
+    ∙ units-stream_bytes us (all_append IsNalUnit (param_units size segments) rest (param_units_are size segments) (units_are settings extra units_for each 0 None rasters is)) in
     let pictures : read_units size segments 3 at_first (drop 3 us) ≡ Ok rasters =
     ap (λ (l : List NalUnit). read_units size segments 3 at_first l) (rest_found size segments rest) ∙ pictures_are_read settings extra units_for each 0 3 None rasters at_first is refl refl in
     ap (λ (r : Result (List NalUnit) ℕ). r >>- λ found. (sets_or_number found >>- λ s. (read_units s.0 s.1 3 at_first (drop 3 found) >>- λ ps. Ok (s.0, ps)))) (units_found (extra_stream settings extra rasters) us read)

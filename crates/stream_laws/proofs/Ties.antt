@@ -1,5 +1,5 @@
 -- What streams without segments, hashes and moves have in common with plain ones.
-use Rattle.std.proofs.Common.{◌≡◌, refl, ◌∙◌, ap, ℕ, ◌+◌, List, [], ◌∷◌}
+use Rattle.std.proofs.Common.{◌≡◌, refl, ◌∙◌, ap, ℕ, ◌+◌, List, [], ◌∷◌, false}
 use Rattle.std.specs.Prelude.{Option, Some, None}
 use Rattle.h265_model.specs.declared.extra.Extra.TheVariants.{Plain}
 use Rattle.h265_model.specs.Plain.{joined}
@@ -8,12 +8,8 @@ use Rattle.h265_model.specs.Raster.{Raster}
 use Rattle.h265_model.specs.NalUnits.{NalUnit, stream_bytes}
 use Rattle.h265_model.specs.Stream.{picture_piece, pieces_after, pieces, stream_of}
 use Rattle.h265_model.specs.ExtraStream.{extra_piece, extra_pieces_after, extra_pieces, extra_stream}
-use Rattle.h265_model.specs.ParamSets.{param_units, set_units, pps_fields, pps_fields_of}
-use Rattle.stream_laws.specs.Laws.{EachSetIsPlain, EachPlainStreamIsThat}
-
-pub sets_are_plain : EachSetIsPlain
-unfolding param_units set_units pps_fields pps_fields_of
-sets_are_plain size = refl
+use Rattle.h265_model.specs.ParamSets.{param_units}
+use Rattle.stream_laws.specs.Laws.{EachPlainStreamIsThat}
 
 pieces_are_plain : (settings : Settings) (n : ℕ) (before : Option Raster) (pictures : List Raster) → extra_pieces_after settings Plain n before pictures ≡ pieces_after settings n before pictures
 unfolding extra_pieces_after pieces_after extra_piece
@@ -22,6 +18,4 @@ pieces_are_plain settings n before (now ∷ pictures) = ap (λ (l : List (List �
 
 pub streams_are_plain : EachPlainStreamIsThat
 unfolding extra_stream stream_of extra_pieces pieces
-streams_are_plain settings pictures =
-    ap (λ (us : List NalUnit). joined (stream_bytes us ∷ extra_pieces_after settings Plain 0 None pictures)) (sets_are_plain settings.size)
-    ∙ ap (λ (l : List (List ℕ)). joined (stream_bytes (param_units settings.size) ∷ l)) (pieces_are_plain settings 0 None pictures)
+streams_are_plain settings pictures = ap (λ (l : List (List ℕ)). joined (stream_bytes (param_units settings.size false) ∷ l)) (pieces_are_plain settings 0 None pictures)

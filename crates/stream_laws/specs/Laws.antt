@@ -1,9 +1,8 @@
--- Laws over the definitions of streams that tie those with moves, segments and hashes to plain ones, and of their parameter sets.
+-- Laws over the definitions of streams that tie those with moves, segments and hashes to plain ones.
 use Rattle.std.specs.Prelude.{◌≡◌, true, false, ◌<◌, ℕ, List, ◌++◌, Ok, Bool, IsTrue}
 use Rattle.std.specs.List.{AllByRecursion}
 use Rattle.h265_model.specs.Plain.{Size, AreBytes, coded}
 use Rattle.h265_model.specs.NalUnits.{NalUnit}
-use Rattle.h265_model.specs.ParamSets.{param_units, set_units, read_sets}
 use Rattle.h265_model.specs.Raster.{Raster, IsRaster}
 use Rattle.h265_model.specs.declared.extra.Extra.{Extra}
 use Rattle.h265_model.specs.declared.extra.Extra.TheVariants.{Plain}
@@ -12,23 +11,6 @@ use Rattle.h265_model.specs.Stream.{stream_of}
 use Rattle.h265_model.specs.ExtraStream.{extra_pieces, extra_stream}
 use Rattle.h265_model.specs.Decode.{decode}
 use Rattle.h265_model.specs.Decode.{decode}
-
--- parameter sets without segments (7.3.2)
-abbrev pub EachSetIsPlain : Type 0
-EachSetIsPlain = (size : Size) → set_units size false ≡ param_units size
-
--- a size and whether a picture has a segment for each row, from their parameter sets
-abbrev pub EachSetIsRead : Type 0
-EachSetIsRead =
-    (size : Size) (segments : Bool) → IsTrue (is_size size) → (segments ≡ true → 32 < coded size.w) → read_sets (set_units size segments) ≡ Ok (size, segments)
-
--- and nothing else is read as these
-abbrev pub EachSetIsSpelled : Type 0
-EachSetIsSpelled =
-    (us : List NalUnit) (size : Size) (segments : Bool) → AllByRecursion (λ unit. AreBytes unit.rbsp) us → read_sets us ≡ Ok (size, segments) →
-    (us ≡ set_units size segments) × (segments ≡ true → 32 < coded size.w)
-
--- ---- streams
 
 -- streams of pictures alone
 abbrev pub EachPlainStreamIsThat : Type 0

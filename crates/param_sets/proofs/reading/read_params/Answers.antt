@@ -10,7 +10,7 @@ returns-in-Err-read_sps c =
 
 pub returns-in-Ok-read_pps : goal.returns-in-Ok-read_pps
 returns-in-Ok-read_pps c =
-    good_sets c.args.sets.now c.index-sets-0.result c.index-sets-1.result c.index-sets-2.result c.in-Ok.size c.requires c.index-sets-0.is c.in_default.ensures c.index-sets-1.is c.in-Ok.ensures c.index-sets-2.is c.in-Ok-read_pps.ensures
+    good_sets c.args.sets.now c.index-sets-0.result c.index-sets-1.result c.index-sets-2.result c.in-Ok.size c.in-Ok-read_pps.segments c.requires c.index-sets-0.is c.in_default.ensures c.index-sets-1.is c.in-Ok.ensures c.index-sets-2.is c.in-Ok-read_pps.ensures
 
 pub returns-in-Err-read_pps : goal.returns-in-Err-read_pps
 returns-in-Err-read_pps c =

@@ -21,5 +21,5 @@ returns c =
     let three = c.in_ok-append_unit-3.ensures.ok ∙ ap (after c.append_unit-2.new.out.items 0x44) (c.deref-3.ensures.value ∙ c.in_ok-pps.ensures) in
     let vps = nal_unit_bytes (set_unit 0x40 vps_fields) in
     let sps = nal_unit_bytes (set_unit 0x42 (sps_fields c.args.params.now.size)) in
-    let pps = nal_unit_bytes (set_unit 0x44 pps_fields) in
+    let pps = nal_unit_bytes (set_unit 0x44 (pps_fields c.args.params.now.segments)) in
     three ∙ ap (λ l. l ++ pps) (two ∙ ap (λ l. l ++ sps) one) ∙ three_units vps sps pps
