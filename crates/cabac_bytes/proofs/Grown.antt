@@ -159,3 +159,9 @@ pub few_below : (v rest some : ℕ) → some ≤ 20 → bit_and (v / 2 ^ rest) (
 few_below v rest some few =
     let mask : bit_and (v / 2 ^ rest) (1 * 2 ^ some % 2 ^ 32 - 1) ≡ v / 2 ^ rest % 2 ^ some = ap (λ m. bit_and (v / 2 ^ rest) (m - 1)) (one_shl some 32 (omega arith)) ∙ and_mask (v / 2 ^ rest) some in
     rw mask (mod-lt (v / 2 ^ rest) (pow_pos some))
+
+-- all digits, as the code takes them
+pub all_few : (n v : ℕ) → n ≤ 20 → bypass_bins (fl n (bit_and v (1 * 2 ^ n % 2 ^ 32 - 1))) ≡ bypass_bins (fl n v)
+all_few n v few =
+    let mask : bit_and v (1 * 2 ^ n % 2 ^ 32 - 1) ≡ v % 2 ^ n = ap (λ m. bit_and v (m - 1)) (one_shl n 32 (omega arith)) ∙ and_mask v n in
+    ap bypass_bins (ap (u n) mask ∙ u-mod n v)

@@ -239,11 +239,14 @@ impl BinSink for ByteCoder {
 
     fn bypass(&mut self, value: u32, count: u32) -> Result<(), NoMemory> {
         let mut left = count;
-        while left > 0 {
-            let some = left.min(20);
-            left -= some;
-            self.bypass_few(value >> left & ((1 << some) - 1), some)?;
+        while left > 20 {
+            left -= 16;
+            self.bypass_few(value >> left & 65535, 16)?;
         }
+        if left == 0 {
+            return Ok(());
+        }
+        self.bypass_few(value & ((1 << left) - 1), left)?;
         Ok(())
     }
 }
