@@ -1,5 +1,5 @@
 -- What a state shows, and shows after a step.
-use Rattle.std.proofs.Common.{◌≡◌, refl, sym, ◌∙◌, ap, subst, ℕ, suc, ◌+◌, ◌*◌, ◌-◌, ◌/◌, ◌%◌, ◌^◌, ◌<◌, ◌≤◌, Bool, false, List, ◌++◌, length, append_assoc, length-append, pow-suc, mod-lt, bit_and, ne_eqb, arith}
+use Rattle.std.proofs.Common.{◌≡◌, refl, sym, ◌∙◌, ap, subst, ℕ, ◌+◌, ◌*◌, ◌-◌, ◌/◌, ◌%◌, ◌^◌, ◌<◌, ◌≤◌, Bool, false, List, ◌++◌, length, append_assoc, length-append, mod-lt, bit_and, ne_eqb, arith}
 use Rattle.std.proofs.lemmas.Nat.{pow_pos, pow-add, and_mask, one_shl, div-add-mod'}
 use Rattle.std.proofs.Math.Nat.{div-lt_iff_lt-mul, pow-le-pow_right}
 use Rattle.h265_model.specs.declared.memory.NoMemory.{NoMemory}

@@ -1,4 +1,4 @@
-use Rattle.std.proofs.Common.{◌≡◌, refl, ◌∙◌, ap, ℕ, ◌/◌, ◌%◌, List, get_or, bit_and, arith}
+use Rattle.std.proofs.Common.{◌≡◌, refl, ◌∙◌, ap, ℕ, ◌/◌, ◌%◌, List, get_or, bit_and}
 use Rattle.std.proofs.lemmas.Nat.{and_mask}
 use Rattle.cabac_bytes.specs.State.{State}
 use Rattle.cabac_bytes.proofs.Steps.{half_left, stepped}

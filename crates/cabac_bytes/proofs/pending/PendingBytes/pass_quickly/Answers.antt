@@ -1,4 +1,4 @@
-use Rattle.std.proofs.Common.{◌≡◌, ap, sym, ◌∙◌, ℕ, Some, arith, rules}
+use Rattle.std.proofs.Common.{◌≡◌, ap, ◌∙◌, Some, rules}
 use Rattle.cabac_bytes.specs.Pending.{Pending}
 use Rattle.cabac_bytes.proofs.Numbers.{four_behind}
 use Rattle.cabac_bytes.proofs.pending.PendingBytes.pass_quickly.Goals as goal
