@@ -237,6 +237,7 @@ impl BinSink for ByteCoder {
         self.fill(samples)
     }
 
+    #[inline(always)]
     fn bypass(&mut self, value: u32, count: u32) -> Result<(), NoMemory> {
         let mut left = count;
         while left > 20 {
