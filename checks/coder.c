@@ -6,19 +6,16 @@
 #include <string.h>
 #include <time.h>
 
-// rangeTabLps
-static const uint8_t LPS[63][4] = {
-    {128, 176, 208, 240}, {128, 167, 197, 227}, {128, 158, 187, 216}, {123, 150, 178, 205}, {116, 142, 169, 195}, {111, 135, 160, 185},
-    {105, 128, 152, 175}, {100, 122, 144, 166}, {95, 116, 137, 158}, {90, 110, 130, 150}, {85, 104, 123, 142}, {81, 99, 117, 135},
-    {77, 94, 111, 128}, {73, 89, 105, 122}, {69, 85, 100, 116}, {66, 80, 95, 110}, {62, 76, 90, 104}, {59, 72, 86, 99},
-    {56, 69, 81, 94}, {53, 65, 77, 89}, {51, 62, 73, 85}, {48, 59, 69, 80}, {46, 56, 66, 76}, {43, 53, 63, 72},
-    {41, 50, 59, 69}, {39, 48, 56, 65}, {37, 45, 54, 62}, {35, 43, 51, 59}, {33, 41, 48, 56}, {32, 39, 46, 53},
-    {30, 37, 43, 50}, {29, 35, 41, 48}, {27, 33, 39, 45}, {26, 31, 37, 43}, {24, 30, 35, 41}, {23, 28, 33, 39},
-    {22, 27, 32, 37}, {21, 26, 30, 35}, {20, 24, 29, 33}, {19, 23, 27, 31}, {18, 22, 26, 30}, {17, 21, 25, 28},
-    {16, 20, 23, 27}, {15, 19, 22, 25}, {14, 18, 21, 24}, {14, 17, 20, 23}, {13, 16, 19, 22}, {12, 15, 18, 21},
-    {12, 14, 17, 20}, {11, 14, 16, 19}, {11, 13, 15, 18}, {10, 12, 15, 17}, {10, 12, 14, 16}, {9, 11, 13, 15},
-    {9, 11, 12, 14}, {8, 10, 12, 14}, {8, 9, 11, 13}, {7, 9, 11, 12}, {7, 9, 10, 12}, {7, 8, 10, 11},
-    {6, 8, 9, 11}, {6, 7, 9, 10}, {6, 7, 8, 9},
+// rangeTabLps: the four shares of a state as bytes, the lowest first
+static const uint32_t LPS[63] = {
+    0xF0D0B080, 0xE3C5A780, 0xD8BB9E80, 0xCDB2967B, 0xC3A98E74, 0xB9A0876F, 0xAF988069, 0xA6907A64,
+    0x9E89745F, 0x96826E5A, 0x8E7B6855, 0x87756351, 0x806F5E4D, 0x7A695949, 0x74645545, 0x6E5F5042,
+    0x685A4C3E, 0x6356483B, 0x5E514538, 0x594D4135, 0x55493E33, 0x50453B30, 0x4C42382E, 0x483F352B,
+    0x453B3229, 0x41383027, 0x3E362D25, 0x3B332B23, 0x38302921, 0x352E2720, 0x322B251E, 0x3029231D,
+    0x2D27211B, 0x2B251F1A, 0x29231E18, 0x27211C17, 0x25201B16, 0x231E1A15, 0x211D1814, 0x1F1B1713,
+    0x1E1A1612, 0x1C191511, 0x1B171410, 0x1916130F, 0x1815120E, 0x1714110E, 0x1613100D, 0x15120F0C,
+    0x14110E0C, 0x13100E0B, 0x120F0D0B, 0x110F0C0A, 0x100E0C0A, 0x0F0D0B09, 0x0E0C0B09, 0x0E0C0A08,
+    0x0D0B0908, 0x0C0B0907, 0x0C0A0907, 0x0B0A0807, 0x0B090806, 0x0A090706, 0x09080706,
 };
 
 // for each byte of a context, the byte after a bin 0 and after a bin 1
@@ -47,77 +44,88 @@ static const uint8_t START[130] = {
 };
 
 struct coder {
-  uint32_t low, range;
-  int left;      // low has 23 - left digits more than nine
-  int held;      // a byte that a carry may still reach, or -1
-  uint32_t run;  // how many bytes 255 follow it
+  uint64_t low;
+  uint32_t range;
+  uint32_t width;  // how many digits low has, but for a carry: 9 to 41
+  int held;        // a byte that a carry may still reach, or -1
+  uint32_t run;    // how many bytes 255 follow it
   uint8_t contexts[130];
   uint8_t *out;
   size_t length;
 };
 
-static void release(struct coder *c, uint32_t carry) {
-  if (c->held >= 0) c->out[c->length++] = c->held + carry;
-  for (; c->run > 0; c->run--) c->out[c->length++] = 255 + carry;
-}
-
-static void pass_on(struct coder *c) {
-  uint32_t lead = c->low >> (24 - c->left);
-  c->left += 8;
-  c->low &= 0xFFFFFFFFu >> c->left;
-  if (lead == 255) {
-    c->run++;
-    return;
+static void pass_on(struct coder *c, uint32_t lead) {
+  if (c->held >= 0) {
+    if (lead == 255) {
+      c->run++;
+      return;
+    }
+    uint32_t carry = lead >> 8;
+    c->out[c->length++] = c->held + carry;
+    for (; c->run > 0; c->run--) c->out[c->length++] = 255 + carry;
   }
-  release(c, lead >> 8);
   c->held = lead & 255;
 }
 
-static inline void advance(struct coder *c, int count) {
-  c->left -= count;
-  if (c->left < 12) pass_on(c);
+static void pass_slowly(struct coder *c, uint64_t lead, int count) {
+  while (count-- > 0) {
+    pass_on(c, lead >> (8 * count));
+    lead &= ((uint64_t)1 << (8 * count)) - 1;
+  }
 }
 
-static inline void context_bin(struct coder *c, int n, int value) {
-  int state = c->contexts[n];
-  uint32_t small = LPS[state >> 1][c->range >> 6 & 3];
-  c->contexts[n] = NEXT[2 * state + value];
-  c->range -= small;
-  if (value == (state & 1)) {
-    if (c->range >= 256) return;
-    c->low <<= 1;
-    c->range <<= 1;
-    advance(c, 1);
+// Four bytes at once. The byte that is held takes the carry, and the last one is held then.
+static __attribute__((noinline)) void pass_four(struct coder *c) {
+  c->width -= 32;
+  uint64_t lead = c->low >> c->width;
+  c->low &= ((uint64_t)1 << c->width) - 1;
+  if (c->held < 0 || c->run > 0 || (lead & 255) == 255) {
+    pass_slowly(c, lead, 4);
     return;
   }
-  int doublings = __builtin_clz(small) - 23;
-  c->low = (c->low + c->range) << doublings;
-  c->range = small << doublings;
+  uint32_t four = __builtin_bswap32(((uint32_t)c->held << 24) + (uint32_t)(lead >> 8));
+  memcpy(c->out + c->length, &four, 4);
+  c->length += 4;
+  c->held = lead & 255;
+}
+
+static inline void advance(struct coder *c, uint32_t count) {
+  c->width += count;
+  if (__builtin_expect(c->width > 41, 0)) pass_four(c);
+}
+
+// Without branches, as bins are hard to foretell: unlikely is all ones or zero.
+static inline void context_bin(struct coder *c, int n, int value) {
+  uint32_t state = c->contexts[n];
+  uint32_t small = LPS[state >> 1] >> (c->range >> 3 & 24) & 255, large = c->range - small;
+  uint32_t unlikely = -((state ^ (uint32_t)value) & 1);
+  uint32_t once = large >> 8 ^ 1, often = __builtin_clz(small) - 23;
+  uint32_t more = large << once, less = small << often;
+  uint32_t doublings = once ^ ((once ^ often) & unlikely);
+  c->contexts[n] = NEXT[2 * state + value];
+  c->low = (c->low + (large & unlikely)) << doublings;
+  c->range = more ^ ((more ^ less) & unlikely);
   advance(c, doublings);
 }
 
 static inline void bypass(struct coder *c, uint32_t value, int count) {
-  c->low = (c->low << count) + value * c->range;
+  c->low = (c->low << count) + (uint64_t)value * c->range;
   advance(c, count);
 }
 
 static void start_run(struct coder *c) {
   c->low = 0;
   c->range = 510;
-  c->left = 23;
+  c->width = 9;
   c->held = -1;
   c->run = 0;
 }
 
 static void end_run(struct coder *c) {
-  int width = 32 - c->left, count = (width + 7) / 8;
-  uint32_t number = ((c->low + c->range - 2) / 2 * 2 + 1) << (8 * count - width);
-  if (number >> (8 * count)) {
-    release(c, 1);
-  } else {
-    release(c, 0);
-  }
-  while (count-- > 0) c->out[c->length++] = number >> (8 * count);
+  int count = (c->width + 7) / 8;
+  pass_slowly(c, ((c->low + c->range - 2) / 2 * 2 + 1) << (8 * count - c->width), count);
+  c->out[c->length++] = c->held;
+  for (; c->run > 0; c->run--) c->out[c->length++] = 255;
 }
 
 enum work { RANDOM, PREDICTABLE, BYPASS, SAMPLES };
@@ -133,7 +141,7 @@ static size_t run(enum work work, const uint8_t *noise, size_t count, uint8_t *o
       for (size_t i = 0; i < 2 * count; i += 2) context_bin(&c, noise[i + 1] / 2, noise[i] < below);
       break;
     case BYPASS:
-      for (size_t i = 0; i < count / 8; i++) bypass(&c, noise[i], 8);
+      for (size_t i = 0; i + 1 < count / 8; i += 2) bypass(&c, noise[i] << 8 | noise[i + 1], 16);
       break;
     case SAMPLES:
       for (size_t i = 0; i + 3072 <= count; i += 3072) {

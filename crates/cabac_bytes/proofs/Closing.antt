@@ -34,7 +34,7 @@ lead_fits held rest left h f =
     let e : limit held * 256 ^ left ≡ (256 * limit held) * 256 ^ (left - 1) = ap (λ n. limit held * n) (one_power left h) ∙ regroup (limit held) (256 ^ (left - 1)) in
     rw p (quotient_below rest (256 ^ (left - 1)) (256 * limit held) (bytes_positive (left - 1)) (omega arith))
 
-pub one_passed : (left rest last count lead : ℕ) (old now new : Pending) → 0 < left → PassesAllBut left rest last count old now → lead ≡ rest / 2 ^ (8 * (left - 1)) → Passes lead now new →
+pub one_passed : (left rest last count lead : ℕ) (old now new : Pending) → 0 < left → PassesAllBut left rest last count old now → lead ≡ rest / 2 ^ (8 * (left - 1)) → Passes 256 1 lead now new →
     PassesAllBut (left - 1) (rest % 2 ^ (8 * (left - 1))) last count old new
 one_passed left rest last count lead old now new h a is p =
     let q : ℕ = 256 ^ (left - 1) in
@@ -45,14 +45,14 @@ one_passed left rest last count lead old now new h a is p =
     let same : (a.added ++ p.added) ++ kept new.held new.run ≡ a.added ++ next = append_assoc a.added p.added (kept new.held new.run) in
     let size : 256 ^ length next ≡ 256 ^ length was * 256 = ap (λ n. 256 ^ n) p.long ∙ (let e : length was + 1 ≡ suc (length was) = omega arith in rw e (pow-suc 256 (length was))) in
     let value : number (a.added ++ next) ≡ number (a.added ++ was) * 256 + lead =
-    number-append a.added next ∙ two (number a.added) (256 ^ length next) (256 ^ length was) (number next) (number was) lead size p.value ∙ ap (λ n. n * 256 + lead) (sym (number-append a.added was)) in
+    number-append a.added next ∙ two (number a.added) (256 ^ length next) (256 ^ length was) (number next) (number was) lead 256 size p.value ∙ ap (λ n. n * 256 + lead) (sym (number-append a.added was)) in
     let long : length (a.added ++ next) ≡ length (a.added ++ was) + 1 = omega (arith, length-append a.added next, length-append a.added was, p.long) in
     let whole : lead * q + rest % q ≡ rest = rw lead_is (div-add-mod' rest q) in
     let few = a.few in
     rw power (record {
       added = a.added ++ p.added;
       out = p.out ∙ ap (λ l. l ++ p.added) a.out ∙ append_assoc old.out a.added p.added;
-      value = rw (same, value) (shift_in (number (a.added ++ was)) lead (rest % q) q ∙ rw whole (rw (← one_power left h) a.value));
+      value = rw (same, value) (shift_in (number (a.added ++ was)) lead (rest % q) q 256 ∙ rw whole (rw (← one_power left h) a.value));
       long = rw same (let k = a.long in omega arith);
       bytes = all_append _ a.added p.added a.bytes (all_front _ p.added (kept new.held new.run) p.bytes);
       last_bytes = λ l. all_back _ p.added (kept new.held new.run) p.bytes;

@@ -58,8 +58,8 @@ last_bytes l low count bytes h long is value =
 -- ---- the last number
 
 pub record Last (held : Option ℕ) (w y : ℕ) : Type 0 where
-  pub shifted : y * 2 ^ (8 * ((w + 7) / 8) - w) % 2 ^ 32 ≡ y * 2 ^ (8 * ((w + 7) / 8) - w)
-  pub fits : y * 2 ^ (8 * ((w + 7) / 8) - w) % 2 ^ 32 < limit held * 256 ^ ((w + 7) / 8)
+  pub shifted : y * 2 ^ (8 * ((w + 7) / 8) - w) % 2 ^ 64 ≡ y * 2 ^ (8 * ((w + 7) / 8) - w)
+  pub fits : y * 2 ^ (8 * ((w + 7) / 8) - w) % 2 ^ 64 < limit held * 256 ^ ((w + 7) / 8)
 
 reorder : (l p q : ℕ) → (l * p) * q ≡ l * (p * q)
 reorder l p q = omega arith
@@ -67,7 +67,7 @@ reorder l p q = omega arith
 above : (y m q : ℕ) → 0 < q → (y + 1) * q ≤ m → y * q < m
 above y m q h k = omega arith
 
-pub last : (held : Option ℕ) (w low range : ℕ) → 9 ≤ w → w ≤ 20 → 256 ≤ range → low + range ≤ limit held * 2 ^ w → Last held w ((low + (range - 2)) / 2 * 2 + 1)
+pub last : (held : Option ℕ) (w low range : ℕ) → 9 ≤ w → w ≤ 41 → 256 ≤ range → low + range ≤ limit held * 2 ^ w → Last held w ((low + (range - 2)) / 2 * 2 + 1)
 last held w low range from to some room =
     let y : ℕ = (low + (range - 2)) / 2 * 2 + 1 in
     let c : ℕ = (w + 7) / 8 in
@@ -75,8 +75,8 @@ last held w low range from to some room =
     let few : d ≤ 7 = omega arith in
     let small = low_small held w low range to room in
     let p = power_small d 7 few in
-    let m : y * 2 ^ d ≤ 2 ^ 21 * 2 ^ 7 = mul-le y (2 ^ d) (2 ^ 21) (2 ^ 7) (omega arith) p in
-    let s : y * 2 ^ d % 2 ^ 32 ≡ y * 2 ^ d = mod-eq_of_lt (omega arith) in
+    let m : y * 2 ^ d ≤ 2 ^ 42 * 2 ^ 7 = mul-le y (2 ^ d) (2 ^ 42) (2 ^ 7) (omega arith) p in
+    let s : y * 2 ^ d % 2 ^ 64 ≡ y * 2 ^ d = mod-eq_of_lt (omega arith) in
     let sum : 8 * c ≡ w + d = omega arith in
     let e : limit held * 256 ^ c ≡ (limit held * 2 ^ w) * 2 ^ d =
     ap (λ n. limit held * n) (sym (bytes_power c) ∙ ap (λ n. 2 ^ n) sum ∙ pow-add 2 w d) ∙ sym (reorder (limit held) (2 ^ w) (2 ^ d)) in

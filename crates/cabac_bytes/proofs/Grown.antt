@@ -145,7 +145,7 @@ pub takes_bypass : (b : Bool) (result : Result (Unit {0}) NoMemory) (old new : S
 takes_bypass b result old new h f e = takes_follows (bypass_bin b ∷ []) result old new h (rw (one_bin b) at f) e
 
 -- the first digits, as the code takes them
-pub first_few : (left some v : ℕ) → some ≤ left → some ≤ 8 →
+pub first_few : (left some v : ℕ) → some ≤ left → some ≤ 20 →
     bypass_bins (fl left v) ≡ bypass_bins (fl some (bit_and (v / 2 ^ (left - some)) (1 * 2 ^ some % 2 ^ 32 - 1))) ++ bypass_bins (fl (left - some) v)
 first_few left some v h few =
     let rest : ℕ = left - some in
@@ -155,7 +155,13 @@ first_few left some v h few =
     ∙ ap bypass_bins (u-split some rest v ∙ ap (λ l. l ++ u rest v) (sym (u-mod some (v / 2 ^ rest)) ∙ ap (u some) (sym mask)))
     ∙ map-append bypass_bin (fl some (bit_and (v / 2 ^ rest) (1 * 2 ^ some % 2 ^ 32 - 1))) (fl rest v)
 
-pub few_below : (v rest some : ℕ) → some ≤ 8 → bit_and (v / 2 ^ rest) (1 * 2 ^ some % 2 ^ 32 - 1) < 2 ^ some
+pub few_below : (v rest some : ℕ) → some ≤ 20 → bit_and (v / 2 ^ rest) (1 * 2 ^ some % 2 ^ 32 - 1) < 2 ^ some
 few_below v rest some few =
     let mask : bit_and (v / 2 ^ rest) (1 * 2 ^ some % 2 ^ 32 - 1) ≡ v / 2 ^ rest % 2 ^ some = ap (λ m. bit_and (v / 2 ^ rest) (m - 1)) (one_shl some 32 (omega arith)) ∙ and_mask (v / 2 ^ rest) some in
     rw mask (mod-lt (v / 2 ^ rest) (pow_pos some))
+
+-- all digits, as the code takes them
+pub all_few : (n v : ℕ) → n ≤ 20 → bypass_bins (fl n (bit_and v (1 * 2 ^ n % 2 ^ 32 - 1))) ≡ bypass_bins (fl n v)
+all_few n v few =
+    let mask : bit_and v (1 * 2 ^ n % 2 ^ 32 - 1) ≡ v % 2 ^ n = ap (λ m. bit_and v (m - 1)) (one_shl n 32 (omega arith)) ∙ and_mask v n in
+    ap bypass_bins (ap (u n) mask ∙ u-mod n v)

@@ -1,5 +1,5 @@
 -- The numbers that bytes spell.
-use Rattle.std.proofs.Common.{◌≡◌, refl, sym, ◌∙◌, ap, ℕ, zero, suc, ◌+◌, ◌*◌, ◌-◌, ◌^◌, ◌<◌, ◌≤◌, Bool, true, false, List, [], ◌∷◌, ◌++◌, length, replicate, length-append, append-nil, pow-suc, arith}
+use Rattle.std.proofs.Common.{◌≡◌, refl, sym, ◌∙◌, ap, ℕ, zero, suc, ◌+◌, ◌*◌, ◌-◌, ◌/◌, ◌%◌, ◌^◌, ◌<◌, ◌≤◌, Bool, true, false, List, [], ◌∷◌, ◌++◌, length, replicate, length-append, append-nil, pow-suc, arith}
 use Rattle.std.proofs.lemmas.Bool.{eqb-true, eqb-false}
 use Rattle.std.proofs.lemmas.List.{length-replicate}
 use Rattle.std.proofs.lemmas.Nat.{pow-add}
@@ -74,7 +74,7 @@ next_power run = let e : run + 1 ≡ suc run = omega arith in rw e (pow-suc 256 
 
 -- one more byte 255 behind the one that is held
 pub counted : (out : List ℕ) (byte run : ℕ) → byte < 256 →
-    Passes 255 (record { out = out; held = Some byte; run = run }) (record { out = out; held = Some byte; run = run + 1 })
+    Passes 256 1 255 (record { out = out; held = Some byte; run = run }) (record { out = out; held = Some byte; run = run + 1 })
 counted out byte run h =
     let a = kept_number byte run in
     let b : number (byte ∷ replicate (run + 1) 255) + 1 ≡ (byte + 1) * (256 ^ run * 256) = kept_number byte (run + 1) ∙ ap (λ n. (byte + 1) * n) (next_power run) in
@@ -93,7 +93,7 @@ released_narrow lead n k e = elim (room lead) [ last is one ↦ absurd (omega ar
 
 -- the one that is held stays as it is
 pub released : (out next : List ℕ) (byte run lead : ℕ) → byte < 256 → lead < 255 → next ≡ out ++ byte ∷ replicate run 255 →
-    Passes lead (record { out = out; held = Some byte; run = run }) (record { out = next; held = Some lead; run = 0 })
+    Passes 256 1 lead (record { out = out; held = Some byte; run = run }) (record { out = next; held = Some lead; run = 0 })
 released out next byte run lead h k e = record {
   added = byte ∷ replicate run 255;
   out = e;
@@ -108,7 +108,7 @@ raised_narrow : (lead byte : ℕ) → 256 ≤ lead → limit (Some byte) ≡ 2 �
 raised_narrow lead byte h w e = elim (room (lead - 256)) [ last is one ↦ rw w (omega arith) | more not two ↦ absurd (omega arith) ]
 
 raised_by : (out next : List ℕ) (byte run lead : ℕ) → byte < 256 → 256 ≤ lead → lead < 256 * limit (Some byte) → next ≡ out ++ (byte + 1) ∷ replicate run 0 → Room byte →
-    Passes lead (record { out = out; held = Some byte; run = run }) (record { out = next; held = Some (lead - 256); run = 0 })
+    Passes 256 1 lead (record { out = out; held = Some byte; run = run }) (record { out = next; held = Some (lead - 256); run = 0 })
 raised_by out next byte run lead f h k e (last is one) = absurd (omega arith)
 raised_by out next byte run lead f h k e (more not two) =
     let a = kept_number byte run in
@@ -126,7 +126,7 @@ raised_by out next byte run lead f h k e (more not two) =
 
 -- the one that is held is raised
 pub raised : (out next : List ℕ) (byte run lead : ℕ) → byte < 256 → 256 ≤ lead → lead < 256 * limit (Some byte) → next ≡ out ++ (byte + 1) ∷ replicate run 0 →
-    Passes lead (record { out = out; held = Some byte; run = run }) (record { out = next; held = Some (lead - 256); run = 0 })
+    Passes 256 1 lead (record { out = out; held = Some byte; run = run }) (record { out = next; held = Some (lead - 256); run = 0 })
 raised out next byte run lead f h k e = raised_by out next byte run lead f h k e (room byte)
 
 can_raise_by : (byte lead : ℕ) → byte < 256 → 256 ≤ lead → lead < 256 * limit (Some byte) → Room byte → byte < 255
@@ -135,3 +135,28 @@ can_raise_by byte lead f h k (more not two) = omega arith
 
 pub can_raise : (byte lead : ℕ) → byte < 256 → 256 ≤ lead → lead < 256 * limit (Some byte) → byte < 255
 can_raise byte lead f h k = can_raise_by byte lead f h k (room byte)
+
+-- ---- four more bytes
+
+below_last : (byte : ℕ) → byte < 256 → (byte ≡ 255 → ⊥) → byte < 255
+below_last byte h not = omega arith
+
+no_last : (byte n l : ℕ) → byte < 255 → limit (Some byte) ≡ 1 → n ≡ l
+no_last byte n l h e = elim (room byte) [ last is one ↦ absurd (omega arith) | more not two ↦ absurd (omega arith) ]
+
+first_byte : (byte lead : ℕ) → byte < 256 → lead < 4294967296 * limit (Some byte) → Room byte → byte + lead / 4294967296 < 256
+first_byte byte lead h f (last is one) = let g : lead < 4294967296 * 1 = rw one at f in omega arith
+first_byte byte lead h f (more not two) = let g : lead < 4294967296 * 2 = rw two at f in let n : byte < 255 = below_last byte h not in omega arith
+
+pub four_behind : (out next : List ℕ) (byte lead : ℕ) → byte < 256 → lead % 256 < 255 → lead < 4294967296 * limit (Some byte) →
+    next ≡ out ++ (byte + lead / 4294967296) ∷ (lead / 16777216 % 256) ∷ (lead / 65536 % 256) ∷ (lead / 256 % 256) ∷ [] →
+    Passes 4294967296 4 lead (record { out = out; held = Some byte; run = 0 }) (record { out = next; held = Some (lead % 256); run = 0 })
+four_behind out next byte lead h k f e = record {
+  added = (byte + lead / 4294967296) ∷ (lead / 16777216 % 256) ∷ (lead / 65536 % 256) ∷ (lead / 256 % 256) ∷ [];
+  out = e;
+  value = (let v : (byte + lead / 4294967296) * 4294967296 + (lead / 16777216 % 256 * 16777216 + (lead / 65536 % 256 * 65536 + (lead / 256 % 256 * 256 + (lead % 256 * 1 + 0)))) ≡ (byte * 1 + 0) * 4294967296 + lead = omega arith in v);
+  long = refl;
+  bytes = (first_byte byte lead h f (room byte), (omega arith, (omega arith, (omega arith, (omega arith, tt)))));
+  narrow = no_last (lead % 256) _ _ k;
+  some = (lead % 256, refl);
+}

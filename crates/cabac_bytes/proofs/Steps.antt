@@ -4,8 +4,8 @@ use Rattle.std.proofs.lemmas.Nat.{pow_pos, pow-add, mul-le}
 use Rattle.std.proofs.lemmas.Bool.{agree_below, agree_below_at, le-ltb, leb-true, eqb-true}
 use Rattle.std.proofs.Math.Nat.{pow-le-pow_right, mod-one}
 use Rattle.std.proofs.Math.Bool.{and-false}
-use Rattle.std.specs.Int.Count.{count_leading_zeros}
-use Rattle.std.specs.Prelude.{Option, Ok, Err, Result, OnOk, ◌==◌, ◌&&◌, ◌||◌, nat_lt, nat_le}
+use Rattle.std.specs.Int.Bits.{bit_xor}
+use Rattle.std.specs.Prelude.{Option, Ok, Err, Result, OnOk, if◌then◌else◌, ◌==◌, ◌&&◌, ◌||◌, nat_lt, nat_le}
 use Rattle.std.specs.Bool.{beq}
 use Rattle.h265_model.specs.declared.Place.TheVariants.{Context, Terminate}
 use Rattle.h265_model.specs.declared.Item.TheVariants as items
@@ -23,15 +23,15 @@ use Rattle.cabac_bytes.proofs.Shown.{Limits, limits, once, twice, not_fresh}
 
 -- ---- how often a range doubles
 
-all_double_once : agree_below (λ r. nat_lt r 128 || doublings r == 1) (λ r. true) 256 ≡ true
+all_double_once : agree_below (λ r. nat_lt r 128 || bit_xor (r / 256) 1 == doublings r) (λ r. true) 510 ≡ true
 unfolding doublings digits_up_to
 all_double_once = refl
 
-pub doubles_once : (r : ℕ) → 128 ≤ r → r < 256 → 1 ≡ doublings r
-doubles_once r low high =
-    let e : (nat_lt r 128 || doublings r == 1) ≡ true = agree_below_at (λ r. nat_lt r 128 || doublings r == 1) (λ r. true) 256 r all_double_once high in
+pub once_at_most : (r : ℕ) → 128 ≤ r → r < 510 → bit_xor (r / 256) 1 ≡ doublings r
+once_at_most r low high =
+    let e : (nat_lt r 128 || bit_xor (r / 256) 1 == doublings r) ≡ true = agree_below_at (λ r. nat_lt r 128 || bit_xor (r / 256) 1 == doublings r) (λ r. true) 510 r all_double_once high in
     let t : nat_lt r 128 ≡ false = le-ltb r 128 low in
-    sym (eqb-true _ _ (rw t at e))
+    eqb-true _ _ (rw t at e)
 
 -- at least 128 of the range is left to the more probable value
 abbrev leaves_enough : ℕ → Bool
@@ -58,14 +58,14 @@ limit_small : (held : Option ℕ) → Limits held → limit held ≤ 2
 limit_small held (once e) = omega arith
 limit_small held (twice e) = omega arith
 
-by_limits : (held : Option ℕ) (w n : ℕ) → Limits held → 2 ^ w ≤ 2 ^ 20 → n ≤ limit held * 2 ^ w → n ≤ 2 ^ 21
+by_limits : (held : Option ℕ) (w n : ℕ) → Limits held → 2 ^ w ≤ 2 ^ 41 → n ≤ limit held * 2 ^ w → n ≤ 2 ^ 42
 by_limits held w n (once e) p h = let f : n ≤ 1 * 2 ^ w = rw e at h in omega arith
 by_limits held w n (twice e) p h = let f : n ≤ 2 * 2 ^ w = rw e at h in omega arith
 
-pub low_small : (held : Option ℕ) (w low range : ℕ) → w ≤ 20 → low + range ≤ limit held * 2 ^ w → low + range ≤ 2 ^ 21
+pub low_small : (held : Option ℕ) (w low range : ℕ) → w ≤ 41 → low + range ≤ limit held * 2 ^ w → low + range ≤ 2 ^ 42
 low_small held w low range h room =
     let positive : 0 < 2 = omega arith in
-    let p : 2 ^ w ≤ 2 ^ 20 = pow-le-pow_right positive h in
+    let p : 2 ^ w ≤ 2 ^ 41 = pow-le-pow_right positive h in
     by_limits held w (low + range) (limits held) p room
 
 pub power_small : (d n : ℕ) → d ≤ n → 2 ^ d ≤ 2 ^ n
@@ -126,65 +126,33 @@ scales s new l r w is_low is_range is_width least less from a =
 pub record Renormal (held : Option ℕ) (w low range k : ℕ) : Type 0 where
   pub is : k ≡ doublings range
   pub few : doublings range ≤ 6
-  pub number : low * 2 ^ k % 2 ^ 32 ≡ low * 2 ^ doublings range
+  pub number : low * 2 ^ k % 2 ^ 64 ≡ low * 2 ^ doublings range
   pub share : range * 2 ^ k % 2 ^ 32 ≡ range * 2 ^ doublings range
   pub least : 256 ≤ range * 2 ^ k % 2 ^ 32
   pub most : range * 2 ^ k % 2 ^ 32 ≤ 510
-  pub room : low * 2 ^ k % 2 ^ 32 + range * 2 ^ k % 2 ^ 32 ≤ limit held * 2 ^ (w + k)
+  pub room : low * 2 ^ k % 2 ^ 64 + range * 2 ^ k % 2 ^ 32 ≤ limit held * 2 ^ (w + k)
 
-renormal_at : (held : Option ℕ) (w low range k : ℕ) → w ≤ 20 → range < 510 → low + range ≤ limit held * 2 ^ w → Doubled range → k ≡ doublings range → Renormal held w low range k
+renormal_at : (held : Option ℕ) (w low range k : ℕ) → w ≤ 41 → range < 510 → low + range ≤ limit held * 2 ^ w → Doubled range → k ≡ doublings range → Renormal held w low range k
 renormal_at held w low range k wide less room d is =
     let few = d.few in
     let least = d.least in
     let most = d.most in
     let small = low_small held w low range wide room in
     let p = power_small (doublings range) 6 few in
-    let m : low * 2 ^ doublings range ≤ 2 ^ 21 * 2 ^ 6 = mul-le low (2 ^ doublings range) (2 ^ 21) (2 ^ 6) (omega arith) p in
-    let a : low * 2 ^ doublings range % 2 ^ 32 ≡ low * 2 ^ doublings range = mod-eq_of_lt (omega arith) in
+    let m : low * 2 ^ doublings range ≤ 2 ^ 42 * 2 ^ 6 = mul-le low (2 ^ doublings range) (2 ^ 42) (2 ^ 6) (omega arith) p in
+    let a : low * 2 ^ doublings range % 2 ^ 64 ≡ low * 2 ^ doublings range = mod-eq_of_lt (omega arith) in
     let b : range * 2 ^ doublings range % 2 ^ 32 ≡ range * 2 ^ doublings range = mod-eq_of_lt (omega arith) in
     let f = scaled_room (limit held) w (doublings range) low range room in
     rw is (record { is = refl; few = few; number = a; share = b; least = omega arith; most = omega arith; room = omega arith })
 
-pub renormal : (held : Option ℕ) (w low range : ℕ) → w ≤ 20 → 4 ≤ range → range < 510 → low + range ≤ limit held * 2 ^ w → Renormal held w low range (count_leading_zeros 32 range - 23)
-renormal held w low range wide some less room = let d = doubled range some (omega arith) in renormal_at held w low range (count_leading_zeros 32 range - 23) wide less room d d.is
-
-pub once_more : (held : Option ℕ) (w low range : ℕ) → w ≤ 20 → 128 ≤ range → range < 256 → low + range ≤ limit held * 2 ^ w → Renormal held w low range 1
-once_more held w low range wide some less room = renormal_at held w low range 1 wide (omega arith) room (doubled range (omega arith) (omega arith)) (doubles_once range some less)
+pub renormal : (held : Option ℕ) (w low range k : ℕ) → w ≤ 41 → 4 ≤ range → range < 510 → k ≡ doublings range → low + range ≤ limit held * 2 ^ w → Renormal held w low range k
+renormal held w low range k wide some less is room = renormal_at held w low range k wide less room (doubled range some (omega arith)) is
 
 pub renormalised : (result : Result (Unit {0}) NoMemory) (s new : State) (k : ℕ) → Renormal s.pending.held s.width s.low s.range k → s.range < 510 → 9 ≤ s.width →
-    OnOk result (Advances (record s { low = s.low * 2 ^ k % 2 ^ 32; range = s.range * 2 ^ k % 2 ^ 32; width = s.width + k }) new) → OnOk result (Scales s new)
+    OnOk result (Advances (record s { low = s.low * 2 ^ k % 2 ^ 64; range = s.range * 2 ^ k % 2 ^ 32; width = s.width + k }) new) → OnOk result (Scales s new)
 renormalised (Err e) s new k n less from a = tt
 renormalised (Ok x) s new k n less from a =
-    scales s new (s.low * 2 ^ k % 2 ^ 32) (s.range * 2 ^ k % 2 ^ 32) (s.width + k) n.number n.share (ap (λ k. s.width + k) n.is) n.least less from a
-
--- a range of nine digits stays
-all_wide_stay : agree_below (λ r. nat_lt r 256 || doublings r == 0) (λ r. true) 512 ≡ true
-unfolding doublings digits_up_to
-all_wide_stay = refl
-
-wide_stays : (r : ℕ) → 256 ≤ r → r < 512 → doublings r ≡ 0
-wide_stays r low high =
-    let e : (nat_lt r 256 || doublings r == 0) ≡ true = agree_below_at (λ r. nat_lt r 256 || doublings r == 0) (λ r. true) 512 r all_wide_stay high in
-    let t : nat_lt r 256 ≡ false = le-ltb r 256 low in
-    eqb-true _ _ (rw t at e)
-
-pub stayed : (s : State) → 256 ≤ s.range → s.range < 510 → Scales s s
-stayed s least less = record {
-  shows = λ c h. (let e : s.range ≡ c.range = h.range in
-      let z : doublings s.range ≡ 0 = wide_stays s.range least (omega arith) in
-      rw (← e, z) (record {
-        settled = h.settled;
-        out = h.out;
-        bytes = h.bytes;
-        low = (let n = h.low in omega arith);
-        count = (let n = h.count in omega arith);
-        range = omega arith;
-        contexts = h.contexts;
-      }));
-  contexts = refl;
-  some = omega arith;
-  fresh = (let t : s.range == 510 ≡ false = ne_eqb s.range 510 (λ e. omega arith) in rw t refl);
-}
+    scales s new (s.low * 2 ^ k % 2 ^ 64) (s.range * 2 ^ k % 2 ^ 32) (s.width + k) n.number n.share (ap (λ k. s.width + k) n.is) n.least less from a
 
 -- ---- one bin
 
@@ -240,6 +208,18 @@ unlikely s t n value small after is_small is_not a is_after = record {
   phase = plain_of (record t { contexts = after }) a.some a.fresh;
 }
 
+-- either value
+pub stepped : (s t : State) (n : ℕ) (value more : Bool) (small low range : ℕ) (after : List ℕ) → small ≡ lps_range (get_or s.contexts n 0) (s.range / 64 % 4) → beq value (mps (get_or s.contexts n 0)) ≡ more →
+    low ≡ (if more then 0 else s.range - small) → range ≡ (if more then s.range - small else small) →
+    Scales (record s { low = s.low + low; range = range }) t → after ≡ step t.contexts n value →
+    Follows (items.Bin (record { value = value; place = Context n }) ∷ []) s (record t { contexts = after })
+stepped s t n value true small low range after is_small is_more is_low is_range a is_after =
+    let none : s.low + 0 ≡ s.low = add-zero s.low in
+    let b : Scales (record s { low = s.low + 0; range = s.range - small }) t = rw (is_low, is_range) at a in
+    likely s t n value small after is_small is_more (rw none at b) is_after
+stepped s t n value false small low range after is_small is_more is_low is_range a is_after =
+    unlikely s t n value small after is_small is_more (rw (is_low, is_range) at a) is_after
+
 -- ---- bins without contexts
 
 digit_of : (r : ℕ) → r < 2 → digit (r == 1) ≡ r
@@ -269,33 +249,33 @@ bypass_code (suc n) v c =
     (rw is (gathered c.low d c.range (2 ^ n) (2 ^ suc n) (v % 2 ^ n) (v % 2 ^ suc n) (pow-suc 2 n) (two_digits n v))) (omega arith)
 
 pub record Few (held : Option ℕ) (w low range value n : ℕ) : Type 0 where
-  pub number : low * 2 ^ n % 2 ^ 32 ≡ low * 2 ^ n
-  pub fits : low * 2 ^ n % 2 ^ 32 + value * range < 2 ^ 32
-  pub room : low * 2 ^ n % 2 ^ 32 + value * range + range ≤ limit held * 2 ^ (w + n)
+  pub number : low * 2 ^ n % 2 ^ 64 ≡ low * 2 ^ n
+  pub fits : low * 2 ^ n % 2 ^ 64 + value * range < 2 ^ 64
+  pub room : low * 2 ^ n % 2 ^ 64 + value * range + range ≤ limit held * 2 ^ (w + n)
 
 one_more : (value range p : ℕ) → value < p → value * range + range ≤ range * p
 one_more value range p h = let m : (value + 1) * range ≤ p * range = mul-le (value + 1) range p range (omega arith) (omega arith) in omega arith
 
-pub few : (held : Option ℕ) (w low range value n : ℕ) → w ≤ 20 → range ≤ 510 → n ≤ 8 → value < 2 ^ n → low + range ≤ limit held * 2 ^ w → Few held w low range value n
+pub few : (held : Option ℕ) (w low range value n : ℕ) → w ≤ 41 → range ≤ 510 → n ≤ 20 → value < 2 ^ n → low + range ≤ limit held * 2 ^ w → Few held w low range value n
 few held w low range value n wide most f below room =
     let small = low_small held w low range wide room in
-    let p = power_small n 8 f in
-    let m : low * 2 ^ n ≤ 2 ^ 21 * 2 ^ 8 = mul-le low (2 ^ n) (2 ^ 21) (2 ^ 8) (omega arith) p in
-    let k : value * range ≤ 256 * 510 = mul-le value range 256 510 (omega arith) most in
-    let a : low * 2 ^ n % 2 ^ 32 ≡ low * 2 ^ n = mod-eq_of_lt (omega arith) in
+    let p = power_small n 20 f in
+    let m : low * 2 ^ n ≤ 2 ^ 42 * 2 ^ 20 = mul-le low (2 ^ n) (2 ^ 42) (2 ^ 20) (omega arith) p in
+    let k : value * range ≤ 1048576 * 510 = mul-le value range 1048576 510 (omega arith) most in
+    let a : low * 2 ^ n % 2 ^ 64 ≡ low * 2 ^ n = mod-eq_of_lt (omega arith) in
     let b = scaled_room (limit held) w n low range room in
     let o = one_more value range (2 ^ n) below in
     record { number = a; fits = omega arith; room = omega arith }
 
 pub followed : (result : Result (Unit {0}) NoMemory) (s new : State) (value n : ℕ) → Few s.pending.held s.width s.low s.range value n → 0 < n → value < 2 ^ n → 0 < s.range → 9 ≤ s.width →
-    OnOk result (Advances (record s { low = s.low * 2 ^ n % 2 ^ 32 + value * s.range; range = s.range; width = s.width + n }) new) → OnOk result (Follows (bypass_bins (fl n value)) s new)
+    OnOk result (Advances (record s { low = s.low * 2 ^ n % 2 ^ 64 + value * s.range; range = s.range; width = s.width + n }) new) → OnOk result (Follows (bypass_bins (fl n value)) s new)
 followed (Err e) s new value n f some below open_range from a = tt
 followed (Ok x) s new value n f some below open_range from a =
     let more : 0 < new.range = (let e = a.range in omega arith) in
     record {
       shows = λ c h. (let e : s.range ≡ c.range = h.range in
           let v : value % 2 ^ n ≡ value = mod-eq_of_lt below in
-          let m = moved s c n (value * s.range) s.range (s.low * 2 ^ n % 2 ^ 32 + value * s.range) (s.width + n) (c.low * 2 ^ n + value * s.range) (c.count + n) (ap (λ l. l + value * s.range) f.number) refl refl refl h in
+          let m = moved s c n (value * s.range) s.range (s.low * 2 ^ n % 2 ^ 64 + value * s.range) (s.width + n) (c.low * 2 ^ n + value * s.range) (c.count + n) (ap (λ l. l + value * s.range) f.number) refl refl refl h in
           rw (bypass_code n value c, v, ← e) (a.shows _ m));
       some = more;
       phase = plain_of new more (a.fresh ∙ not_fresh s.range (s.width + n) (is_none s.pending.held) (omega arith));

@@ -23,14 +23,14 @@ abbrev pub limit : Option ℕ → ℕ
 limit None = 1
 limit (Some byte) = if byte == 255 then 1 else 2
 
--- one more byte: those that a carry may reach become these with `lead` behind them, which may carry
-pub record Passes (lead : ℕ) (old new : Pending) : Type 0 where
+-- `count` more bytes, of which there are `power` numbers: the bytes that a carry may reach become these with `lead` behind them, which may carry
+pub record Passes (power count lead : ℕ) (old new : Pending) : Type 0 where
   pub added : List ℕ
   pub out : new.out ≡ old.out ++ added
-  pub value : number (added ++ kept new.held new.run) ≡ number (kept old.held old.run) * 256 + lead
-  pub long : length (added ++ kept new.held new.run) ≡ length (kept old.held old.run) + 1
+  pub value : number (added ++ kept new.held new.run) ≡ number (kept old.held old.run) * power + lead
+  pub long : length (added ++ kept new.held new.run) ≡ length (kept old.held old.run) + count
   pub bytes : AreBytes (added ++ kept new.held new.run)
-  pub narrow : limit new.held ≡ 1 → lead + 1 ≡ 256 * limit old.held
+  pub narrow : limit new.held ≡ 1 → lead + 1 ≡ power * limit old.held
   pub some : (byte : ℕ) × (new.held ≡ Some byte)
 
 abbrev pub Begins : List ℕ → List ℕ → Type 0

@@ -38,7 +38,7 @@ pub record IsState (s : State) : Type 0 where
   pub least : 0 < s.range → 256 ≤ s.range
   pub most : s.range ≤ 510
   pub from : 9 ≤ s.width
-  pub to : s.width ≤ 20
+  pub to : s.width ≤ 41
   pub room : s.low + s.range ≤ limit s.pending.held * 2 ^ s.width
 
 -- a run under way: the bytes after those that are done, and the low number behind them, are the number of the code

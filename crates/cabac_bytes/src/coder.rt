@@ -1,6 +1,7 @@
 //! The coder.
-ghost use Rattle.std.specs.Prelude.{◌≡◌, ℕ, ◌+◌, ◌*◌, ◌^◌, ◌<◌, ◌≤◌, List, [], false, length, OnOk, OnErr, IfOk};
+ghost use Rattle.std.specs.Prelude.{◌≡◌, ℕ, ◌+◌, ◌*◌, ◌^◌, ◌<◌, ◌≤◌, List, [], false, length, OnOk, OnErr, IfOk, if◌then◌else◌};
 ghost use Rattle.h265_model.specs.declared.Item.{Item};
+ghost use Rattle.h265_model.specs.Engine as engine;
 ghost use Rattle.h265_model.specs.Binarise.{bypass_bins, fl};
 ghost use Rattle.h265_model.specs.Code.{Plain, Ended, code, contexts_after};
 ghost use Rattle.h265_model.specs.declared.Place.TheVariants as places;
@@ -18,7 +19,7 @@ use std::marker::Model;
 pub struct ByteCoder {
     pending: PendingBytes,
     // The number behind the bytes, and how many digits it has but for a carry.
-    low: u32,
+    low: u64,
     width: u32,
     // 0 after a terminating bin 1.
     range: u32,
@@ -50,25 +51,25 @@ impl ByteCoder {
         }
     }
 
-    // Another range, and a number of so many digits behind the bytes: a whole byte of it is passed on.
+    // Another range, and a number of so many digits behind the bytes: four whole bytes of it are passed on.
     #[inline(always)]
-    fn advance(&mut self, low: u32, range: u32, width: u32) -> Result<(), NoMemory>
+    fn advance(&mut self, low: u64, range: u32, width: u32) -> Result<(), NoMemory>
         requires least { 256 ≤ range }
         requires most { range ≤ 510 }
         requires from { 9 ≤ width }
-        requires to { width ≤ 28 }
+        requires to { width ≤ 61 }
         requires room { low + range ≤ limit self.old.pending.held * 2 ^ width }
         ensures ok { OnOk result (Advances (record self.old { low = low; range = range; width = width }) self.new) }
         ensures err { OnErr result (self.new ≡ self.old) }
     {
-        if width <= 20 {
+        if width <= 41 {
             self.low = low;
             self.range = range;
             self.width = width;
             return Ok(());
         }
-        let rest = width - 8;
-        self.pending.pass_on(low >> rest)?;
+        let rest = width - 32;
+        self.pending.pass_four(low >> rest)?;
         self.low = low & ((1 << rest) - 1);
         self.range = range;
         self.width = rest;
@@ -77,27 +78,15 @@ impl ByteCoder {
 
     // The range, of at least 4, doubles until it is at least 256, and the number with it (9.3.5.4).
     #[inline(always)]
-    fn renormalise(&mut self, low: u32, range: u32) -> Result<(), NoMemory>
-        requires some { 4 ≤ range }
+    fn renormalise(&mut self, low: u64, range: u32, doublings: u32) -> Result<(), NoMemory>
+        requires least { 4 ≤ range }
         requires less { range < 510 }
+        requires doublings { doublings ≡ engine.doublings range }
         requires room { low + range ≤ limit self.old.pending.held * 2 ^ self.old.width }
         ensures ok { OnOk result (Scales (record self.old { low = low; range = range }) self.new) }
         ensures err { OnErr result (self.new ≡ self.old) }
     {
-        let doublings = range.leading_zeros() - 23;
         self.advance(low << doublings, range << doublings, self.width + doublings)
-    }
-
-    // The range, of at least 128 and below 256, doubles once, and the number with it.
-    #[inline(always)]
-    fn double(&mut self, range: u32) -> Result<(), NoMemory>
-        requires least { 128 ≤ range }
-        requires most { range < 256 }
-        requires room { self.old.low + range ≤ limit self.old.pending.held * 2 ^ self.old.width }
-        ensures ok { OnOk result (Scales (record self.old { range = range }) self.new) }
-        ensures err { OnErr result (self.new ≡ self.old) }
-    {
-        self.advance(self.low << 1, range << 1, self.width + 1)
     }
 
     #[inline(always)]
@@ -110,17 +99,9 @@ impl ByteCoder {
         let state = self.contexts.get(n);
         let small = lps(state, self.range >> 6 & 3);
         let large = self.range - small;
-        if value == (state & 1 == 1) {
-            if large >= 256 {
-                self.range = large;
-                self.contexts.step(n, value);
-                return Ok(());
-            }
-            self.double(large)?;
-            self.contexts.step(n, value);
-            return Ok(());
-        }
-        self.renormalise(self.low + large, small)?;
+        let likely = value == (state & 1 == 1);
+        let (low, range, doublings) = share(likely, small, large);
+        self.renormalise(self.low + low as u64, range, doublings)?;
         self.contexts.step(n, value);
         Ok(())
     }
@@ -129,13 +110,13 @@ impl ByteCoder {
     fn bypass_few(&mut self, value: u32, count: u32) -> Result<(), NoMemory>
         requires not_ended { 0 < self.old.range }
         requires some { 0 < count }
-        requires few { count ≤ 8 }
+        requires few { count ≤ 20 }
         requires below { value < 2 ^ count }
         ensures ok { OnOk result (Follows (bypass_bins (fl count value)) self.old self.new) }
         ensures err { OnErr result (self.new ≡ self.old) }
     {
         self.advance(
-            (self.low << count) + value * self.range,
+            (self.low << count) + value as u64 * self.range as u64,
             self.range,
             self.width + count,
         )
@@ -146,7 +127,8 @@ impl ByteCoder {
         ensures ok { OnOk result (Steps places.Terminate false self.old self.new) }
         ensures err { OnErr result (self.new ≡ self.old) }
     {
-        self.renormalise(self.low, self.range - 2)
+        let range = self.range - 2;
+        self.renormalise(self.low, range, doublings(range))
     }
 
     // A terminating bin 1: the last digit is a 1, and zeros follow to the byte (9.3.5.6).
@@ -155,7 +137,7 @@ impl ByteCoder {
         ensures ok { OnOk result (Ends self.old self.new) }
         ensures err { OnErr result (self.new ≡ self.old) }
     {
-        let number = (self.low + (self.range - 2)) / 2 * 2 + 1;
+        let number = (self.low + (self.range - 2) as u64) / 2 * 2 + 1;
         let count = (self.width + 7) / 8;
         self.pending
             .close(number << (8 * count - self.width), count)?;
@@ -201,6 +183,37 @@ impl ByteCoder {
     }
 }
 
+// How often a range of at least 4 doubles until it is at least 256.
+#[inline(always)]
+fn doublings(range: u32) -> u32
+    requires some { 4 ≤ range }
+    requires less { range ≤ 510 }
+    ensures { result ≡ engine.doublings range }
+{
+    range.leading_zeros() - 23
+}
+
+// What a bin of a context adds to the number, what it leaves of the range, and how often that doubles: the more probable value has the
+// lower share. It computes both, and picks without a branch.
+#[inline(always)]
+fn share(likely: bool, small: u32, large: u32) -> (u32, u32, u32)
+    requires from { 6 ≤ small }
+    requires to { small ≤ 240 }
+    requires least { 128 ≤ large }
+    requires most { large < 510 }
+    ensures low { result.0 ≡ (if likely then 0 else large) }
+    ensures range { result.1 ≡ (if likely then large else small) }
+    ensures doublings { result.2 ≡ engine.doublings result.1 }
+{
+    let once = large >> 8 ^ 1;
+    let often = doublings(small);
+    if likely {
+        (0, large, once)
+    } else {
+        (large, small, often)
+    }
+}
+
 impl BinSink for ByteCoder {
     ghost phase = { λ s. phase_of s };
 
@@ -224,13 +237,17 @@ impl BinSink for ByteCoder {
         self.fill(samples)
     }
 
+    #[inline(always)]
     fn bypass(&mut self, value: u32, count: u32) -> Result<(), NoMemory> {
         let mut left = count;
-        while left > 0 {
-            let some = left.min(8);
-            left -= some;
-            self.bypass_few(value >> left & ((1 << some) - 1), some)?;
+        while left > 20 {
+            left -= 16;
+            self.bypass_few(value >> left & 65535, 16)?;
         }
+        if left == 0 {
+            return Ok(());
+        }
+        self.bypass_few(value & ((1 << left) - 1), left)?;
         Ok(())
     }
 }

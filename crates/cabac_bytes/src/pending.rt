@@ -1,5 +1,5 @@
 //! Bytes of which the last may still be raised by a carry.
-ghost use Rattle.std.specs.Prelude.{◌≡◌, ◌<◌, ◌≤◌, ◌*◌, ◌^◌, ◌++◌, ◌∷◌, [], replicate, None, OnOk, OnErr};
+ghost use Rattle.std.specs.Prelude.{◌≡◌, ◌<◌, ◌≤◌, ◌*◌, ◌%◌, ◌^◌, ◌++◌, ◌∷◌, [], replicate, Some, None, OnOk, OnErr};
 ghost use Rattle.cabac_bytes.specs.Pending.{limit, kept, Passes, Closes, Begins};
 
 use h265_model::NoMemory;
@@ -35,10 +35,10 @@ impl PendingBytes {
         }
     }
 
-    /// One more byte, which carries where it is above 255.
-    pub(crate) fn pass_on(&mut self, lead: u32) -> Result<(), NoMemory>
+    // One more byte, which carries where it is above 255.
+    fn pass_on(&mut self, lead: u64) -> Result<(), NoMemory>
         requires { lead < 256 * limit self.old.held }
-        ensures ok { OnOk result (Passes lead self.old self.new) }
+        ensures ok { OnOk result (Passes 256 1 lead self.old self.new) }
         ensures err { OnErr result (self.new ≡ self.old) }
     {
         match self.held {
@@ -68,6 +68,61 @@ impl PendingBytes {
         Ok(())
     }
 
+    /// Four more bytes, which carry where their number is too large for them.
+    pub(crate) fn pass_four(&mut self, lead: u64) -> Result<(), NoMemory>
+        requires { lead < 4294967296 * limit self.old.held }
+        ensures ok { OnOk result (Passes 4294967296 4 lead self.old self.new) }
+        ensures err { OnErr result (self.new ≡ self.old) }
+    {
+        if let Some(held) = self.held {
+            if self.run == 0 && lead % 256 != 255 {
+                return self.pass_quickly(held, lead);
+            }
+        }
+        let (start, held, run) = (self.out.len(), self.held, self.run);
+        match self.pass_each(lead) {
+            Ok(()) => Ok(()),
+            Err(refused) => {
+                self.out.truncate(start);
+                self.held = held;
+                self.run = run;
+                Err(refused)
+            }
+        }
+    }
+
+    // Four more bytes behind the one that is held, of which the last one is held then: a carry comes no further.
+    #[inline(always)]
+    fn pass_quickly(&mut self, held: u8, lead: u64) -> Result<(), NoMemory>
+        requires held { self.old.held ≡ Some held }
+        requires run { self.old.run ≡ 0 }
+        requires last { lead % 256 < 255 }
+        requires fits { lead < 4294967296 * limit self.old.held }
+        ensures ok { OnOk result (Passes 4294967296 4 lead self.old self.new) }
+        ensures err { OnErr result (self.new ≡ self.old) }
+    {
+        let bytes = [
+            held + (lead >> 32) as u8,
+            ((lead >> 24) % 256) as u8,
+            ((lead >> 16) % 256) as u8,
+            ((lead >> 8) % 256) as u8,
+        ];
+        self.out.extend_from_slice(&bytes)?;
+        self.held = Some((lead % 256) as u8);
+        Ok(())
+    }
+
+    fn pass_each(&mut self, lead: u64) -> Result<(), NoMemory>
+        requires { lead < 4294967296 * limit self.old.held }
+        ensures ok { OnOk result (Passes 4294967296 4 lead self.old self.new) }
+        ensures kept { Begins self.old.out self.new.out }
+    {
+        self.pass_on(lead >> 24)?;
+        self.pass_on((lead >> 16) % 256)?;
+        self.pass_on((lead >> 8) % 256)?;
+        self.pass_on(lead % 256)
+    }
+
     /// Gives up what is held: no carry comes any more.
     pub(crate) fn settle(&mut self) -> Result<(), NoMemory>
         ensures ok { OnOk result (self.new ≡ record { out = self.old.out ++ kept self.old.held self.old.run; held = None; run = 0 }) }
@@ -82,9 +137,9 @@ impl PendingBytes {
     }
 
     /// The last `count` bytes: those of `number`, which carries where it is too large for them. No carry comes any more.
-    pub(crate) fn close(&mut self, number: u32, count: u32) -> Result<(), NoMemory>
+    pub(crate) fn close(&mut self, number: u64, count: u32) -> Result<(), NoMemory>
         requires some { 0 < count }
-        requires few { count ≤ 3 }
+        requires few { count ≤ 6 }
         requires fits { number < limit self.old.held * 256 ^ count }
         ensures ok { OnOk result (Closes number count self.old self.new) }
         ensures err { OnErr result (self.new ≡ self.old) }
@@ -101,9 +156,9 @@ impl PendingBytes {
         }
     }
 
-    fn pass_all(&mut self, number: u32, count: u32) -> Result<(), NoMemory>
+    fn pass_all(&mut self, number: u64, count: u32) -> Result<(), NoMemory>
         requires some { 0 < count }
-        requires few { count ≤ 3 }
+        requires few { count ≤ 6 }
         requires fits { number < limit self.old.held * 256 ^ count }
         ensures ok { OnOk result (Closes number count self.old self.new) }
         ensures kept { Begins self.old.out self.new.out }

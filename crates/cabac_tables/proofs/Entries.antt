@@ -1,5 +1,5 @@
 -- The tables by their rules.
-use Rattle.std.proofs.Common.{◌≡◌, refl, ap, ◌∙◌, ℕ, zero, suc, ◌+◌, ◌*◌, ◌/◌, ◌<◌, ◌≤◌, Bool, true, false, List, [], ◌∷◌, get_or, arith, inl, inr}
+use Rattle.std.proofs.Common.{◌≡◌, refl, ap, ◌∙◌, ℕ, zero, suc, ◌+◌, ◌*◌, ◌/◌, ◌^◌, ◌<◌, ◌≤◌, Bool, true, false, List, [], ◌∷◌, get_or, bit_and, arith, inl, inr}
 use Rattle.std.specs.List.{AllByRecursion}
 use Rattle.std.specs.Prelude.{◌==◌, ◌&&◌, nat_le, nat_lt}
 use Rattle.std.proofs.Math.Nat.{eq-or-lt_of_le}
@@ -34,7 +34,7 @@ rule (suc n) f h k l = let m : k ≤ n = omega arith in elim (eq-or-lt_of_le m) 
 
 abbrev lps_test : ℕ → ℕ → Bool
 lps_test byte quarter =
-    let v : ℕ = get_or LPS (4 * (byte / 2) + quarter) 0 in
+    let v : ℕ = bit_and (get_or LPS (byte / 2) 0 / 2 ^ (8 * quarter)) 255 in
     v == lps_range byte quarter && (nat_le 6 v && nat_le v 240)
 
 pub record Share (v byte quarter : ℕ) : Type 0 where
@@ -46,10 +46,10 @@ all_shares : all_below 126 (λ byte. all_below 4 (λ quarter. lps_test byte quar
 unfolding lps_range
 all_shares = refl
 
-pub share : (byte quarter : ℕ) → byte < 126 → quarter < 4 → Share (get_or LPS (4 * (byte / 2) + quarter) 0) byte quarter
+pub share : (byte quarter : ℕ) → byte < 126 → quarter < 4 → Share (bit_and (get_or LPS (byte / 2) 0 / 2 ^ (8 * quarter)) 255) byte quarter
 share byte quarter h k =
     let t : lps_test byte quarter ≡ true = rule 4 (λ quarter. lps_test byte quarter) (rule 126 (λ byte. all_below 4 (λ quarter. lps_test byte quarter)) all_shares byte h) quarter k in
-    let v : ℕ = get_or LPS (4 * (byte / 2) + quarter) 0 in
+    let v : ℕ = bit_and (get_or LPS (byte / 2) 0 / 2 ^ (8 * quarter)) 255 in
     let both = and_right (v == lps_range byte quarter) (nat_le 6 v && nat_le v 240) t in
     record {
       is = eqb-true v (lps_range byte quarter) (and_left (v == lps_range byte quarter) (nat_le 6 v && nat_le v 240) t);

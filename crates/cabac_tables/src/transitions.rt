@@ -23,5 +23,5 @@ pub fn lps(state: u8, quarter: u32) -> u32
     ensures from { 6 ≤ result }
     ensures to { result ≤ 240 }
 {
-    LPS[4 * (state >> 1) as usize + quarter as usize] as u32
+    LPS[(state >> 1) as usize] >> (8 * quarter) & 255
 }

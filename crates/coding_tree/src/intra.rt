@@ -20,6 +20,7 @@ use residual_code::{cbf, write_residual};
 use scan_orders::scan_kind;
 
 // The levels of a component.
+#[inline(always)]
 fn levels_of<V: LevelSource>(source: &mut V, leaf: Leaf, component: u32) -> Block
     requires low { 3 ≤ leaf.log2 }
     requires high { leaf.log2 ≤ 5 }

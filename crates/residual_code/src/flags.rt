@@ -67,14 +67,15 @@ fn write_flag<S: BinSink>(
     Ok(())
 }
 
-// Adds a level that isn't 0.
+// Adds a level that isn't 0. It writes each one, and takes a 0 back, which needs no branch.
 #[inline(always)]
 fn add(values: &mut ArrayVec<i16, 16>, level: i16)
     requires { length values.old.items < 16 }
     ensures { values.new.items ≡ values.old.items ++ nonzero (level ∷ []) }
 {
-    if level != 0 {
-        values.push(level);
+    values.push(level);
+    if level == 0 {
+        values.pop();
     }
 }
 

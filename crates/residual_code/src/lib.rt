@@ -4,6 +4,7 @@
 mod blocks;
 mod flags;
 mod last;
+mod remaining;
 mod shape;
 mod subs;
 mod tile;

@@ -7,6 +7,7 @@ ghost use Rattle.h265_model.specs.Residual as residual;
 ghost use Rattle.residual_code.specs.Parts.{least_of};
 ghost use Rattle.bin_items.specs.Growth.{IsOpen, Writes};
 
+use crate::remaining::CODES;
 use bin_items::{Bin, BinSink, NoMemory, Place};
 use scan_orders::{greater1_context, greater2_context};
 
@@ -132,16 +133,8 @@ fn remaining_code(rice: u32, value: u32) -> (u32, u32)
     ensures digits { fl result.1 result.0 ≡ remaining rice value }
     ensures few { result.1 ≤ 32 }
 {
-    let prefix = value >> rice;
-    if prefix < 4 {
-        let ones = (2 << prefix) - 2;
-        return ((ones << rice) + value % (1 << rice), prefix + 1 + rice);
-    }
-    let rest = value - (2 << rice);
-    let digits = 31 - rest.leading_zeros();
-    let ones = 3 + digits - rice;
-    let front = (2 << ones) - 2;
-    ((front << digits) + rest % (1 << digits), ones + 1 + digits)
+    let entry = CODES[(256 * rice + value) as usize];
+    (entry >> 8, entry & 255)
 }
 
 // The least size of the level with this number whose rest is coded, where `seen` says whether an earlier one was above 1.
