@@ -12,7 +12,9 @@ ghost use Rattle.px_plane.specs.Rows.{IsWithin, IsPartOf, IsCopyOf, IsPutInto, s
 
 use crate::clip::Clip;
 use crate::compare::{RowPart, equal_front};
-use crate::plane::{Sides, blit_plane, copy_from_plane, copy_plane, fill_plane, lay_plane, put_plane};
+use crate::plane::{
+    Sides, blit_plane, copy_from_plane, copy_plane, fill_plane, lay_plane, put_plane,
+};
 use crate::{Job, Rect, Rgb, Size, Steps};
 use h265_model::NoMemory;
 use std::alloc::Global;
