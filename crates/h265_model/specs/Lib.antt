@@ -26,6 +26,4 @@ pub mod Modes
 pub mod Predict
 pub mod Motion
 pub mod Hash
-pub mod Walks
 pub mod MotionChoice
-pub mod ExtraStream

@@ -11,7 +11,8 @@ use Rattle.h265_model.specs.declared.moves.MoveLeaf.{MoveLeaf}
 use Rattle.h265_model.specs.declared.leaf.Kind.{Kind}
 use Rattle.h265_model.specs.declared.leaf.Kind.TheVariants.{Skip, Pcm, Intra}
 use Rattle.h265_model.specs.declared.leaf.Leaf.{Leaf}
-use Rattle.h265_model.specs.Plain.{Size, coded, leaf_with, covers, context_bin, bypass_bin}
+use Rattle.h265_model.specs.declared.block.CodingBlock.{CodingBlock}
+use Rattle.h265_model.specs.Plain.{Size, coded, side, leaf_with, covers, context_bin, bypass_bin}
 use Rattle.h265_model.specs.SyntaxElements.{merge_flag, mvp_l0_flag, abs_mvd_greater0_flag, abs_mvd_greater1_flag, rqt_root_cbf}
 use Rattle.h265_model.specs.Engine.{Reader, ◌>>=◌, give, refuse, bin}
 use Rattle.h265_model.specs.Residual.{is_negative, signed}
@@ -46,20 +47,20 @@ vector_before units (suc x) (suc y) = vector_in (find (λ (unit : Moving). cover
 
 -- 8.5.3.2.3, the neighbours of a block of side n at (x, y): A0 (x - 1, y + n), A1 (x - 1, y + n - 1),
 -- B0 (x + n, y - 1), B1 (x + n - 1, y - 1), B2 (x - 1, y - 1)
-abbrev pub a0 : List Moving → ℕ → ℕ → ℕ → Option Vector
-a0 units x y n = vector_before units x (y + n + 1)
+abbrev pub a0 : List Moving → CodingBlock → Option Vector
+a0 units block = vector_before units block.x (block.y + side block + 1)
 
-abbrev pub a1 : List Moving → ℕ → ℕ → ℕ → Option Vector
-a1 units x y n = vector_before units x (y + n)
+abbrev pub a1 : List Moving → CodingBlock → Option Vector
+a1 units block = vector_before units block.x (block.y + side block)
 
-abbrev pub b0 : List Moving → ℕ → ℕ → ℕ → Option Vector
-b0 units x y n = vector_before units (x + n + 1) y
+abbrev pub b0 : List Moving → CodingBlock → Option Vector
+b0 units block = vector_before units (block.x + side block + 1) block.y
 
-abbrev pub b1 : List Moving → ℕ → ℕ → ℕ → Option Vector
-b1 units x y n = vector_before units (x + n) y
+abbrev pub b1 : List Moving → CodingBlock → Option Vector
+b1 units block = vector_before units (block.x + side block) block.y
 
-abbrev pub b2 : List Moving → ℕ → ℕ → Option Vector
-b2 units x y = vector_before units x y
+abbrev pub b2 : List Moving → CodingBlock → Option Vector
+b2 units block = vector_before units block.x block.y
 
 -- the first vector of these
 abbrev pub first_vector : List (Option Vector) → Option Vector
@@ -72,10 +73,9 @@ or_none None = no_motion
 or_none (Some v) = v
 
 -- 8.5.3.2.2, 8.5.3.2.3 and 8.5.3.2.5: the merge vector is that of the one merging candidate
-unfoldable pub merge : List Moving → ℕ → ℕ → ℕ → Vector
-merge units x y log2 =
-    let n : ℕ = 2 ^ log2 in
-    or_none (first_vector (a1 units x y n ∷ b1 units x y n ∷ b0 units x y n ∷ a0 units x y n ∷ b2 units x y ∷ []))
+unfoldable pub merge : List Moving → CodingBlock → Vector
+merge units block =
+    or_none (first_vector (a1 units block ∷ b1 units block ∷ b0 units block ∷ a0 units block ∷ b2 units block ∷ []))
 
 -- ---- predictors
 
@@ -95,10 +95,9 @@ two_of (Some a) None = (a, no_motion)
 two_of (Some a) (Some b) = if is_vector a b then (a, no_motion) else (a, b)
 
 -- 8.5.3.2.6 and 8.5.3.2.7: the two motion vector predictors (mvpListLX)
-unfoldable pub predictors : List Moving → ℕ → ℕ → ℕ → Vector × Vector
-predictors units x y log2 =
-    let n : ℕ = 2 ^ log2 in
-    two_of (first_vector (a0 units x y n ∷ a1 units x y n ∷ [])) (first_vector (b0 units x y n ∷ b1 units x y n ∷ b2 units x y ∷ []))
+unfoldable pub predictors : List Moving → CodingBlock → Vector × Vector
+predictors units block =
+    two_of (first_vector (a0 units block ∷ a1 units block ∷ [])) (first_vector (b0 units block ∷ b1 units block ∷ b2 units block ∷ []))
 
 -- the predictor that mvp_l0_flag names
 abbrev pub predictor : Bool → Vector × Vector → Vector
@@ -118,8 +117,8 @@ reaches limit n x (pos v) = nat_le (x + v + n) limit
 reaches limit n x (negsuc v) = nat_le (suc v) x && nat_le (x - suc v + n) limit
 
 -- the block that the vector names lies wholly in the coded picture
-unfoldable pub has_source : Size → ℕ → ℕ → ℕ → Vector → Bool
-has_source size x y log2 v = reaches (coded size.w) (2 ^ log2) x v.x && reaches (coded size.h) (2 ^ log2) y v.y
+unfoldable pub has_source : Size → CodingBlock → Vector → Bool
+has_source size block v = reaches (coded size.w) (side block) block.x v.x && reaches (coded size.h) (side block) block.y v.y
 
 -- ---- the vector difference (7.3.8.9)
 
@@ -232,7 +231,7 @@ kind_as_coded moves.Pcm = Pcm
 kind_as_coded (moves.Intra mode) = Intra mode
 
 abbrev pub leaf_as_coded : MoveLeaf → Leaf
-leaf_as_coded unit = leaf_with unit.x unit.y unit.log2 (kind_as_coded unit.kind)
+leaf_as_coded unit = leaf_with unit.block (kind_as_coded unit.kind)
 
 abbrev pub kind_vector : Vector → MoveKind → Option Vector
 kind_vector merged moves.Skip = Some merged
@@ -244,7 +243,7 @@ kind_vector merged (moves.Intra mode) = None
 abbrev pub as_coded : List Moving → MoveLeaf → Moving
 as_coded before unit = record {
   leaf = leaf_as_coded unit;
-  vector = kind_vector (merge before unit.x unit.y unit.log2) unit.kind;
+  vector = kind_vector (merge before unit.block) unit.kind;
 }
 
 -- these units, and then those
@@ -259,4 +258,4 @@ still_kind Pcm = moves.Pcm
 still_kind (Intra mode) = moves.Intra mode
 
 abbrev pub still : Leaf → MoveLeaf
-still leaf = record { x = leaf.x; y = leaf.y; log2 = leaf.log2; kind = still_kind leaf.kind }
+still leaf = record { block = leaf.block; kind = still_kind leaf.kind }

@@ -3,11 +3,12 @@ use Rattle.std.specs.Prelude.{ℕ, zero, suc, ◌+◌, ◌*◌, ◌^◌, Bool, n
 use Rattle.std.specs.List.{filter, list_all}
 use Rattle.h265_model.specs.declared.leaf.Kind.TheVariants.{Intra}
 use Rattle.h265_model.specs.declared.leaf.Leaf.{Leaf}
+use Rattle.h265_model.specs.declared.block.CodingBlock.{CodingBlock}
 use Rattle.h265_model.specs.declared.moves.Vector.{Vector}
 use Rattle.h265_model.specs.declared.moves.MoveKind.{MoveKind}
 use Rattle.h265_model.specs.declared.moves.MoveKind.TheVariants as moves
 use Rattle.h265_model.specs.declared.moves.MoveLeaf.{MoveLeaf}
-use Rattle.h265_model.specs.Plain.{Size, Picture, below, leaf_with, ctu_x, ctu_y}
+use Rattle.h265_model.specs.Plain.{Size, Picture, below, block_at, leaf_with, ctu_x, ctu_y}
 use Rattle.h265_model.specs.Predict.{is_inside}
 use Rattle.h265_model.specs.Tree.{samples_in, is_whole}
 use Rattle.h265_model.specs.Choice.{intra_cost, pcm_cost, same, modes_of}
@@ -31,8 +32,8 @@ abbrev pub best_of : List MovePlan → MovePlan → MovePlan
 best_of [] last = last
 best_of (plan ∷ plans) last = cheapest plan (plans ++ last ∷ [])
 
-abbrev pub unit_at : ℕ → ℕ → ℕ → MoveKind → MoveLeaf
-unit_at x y log2 kind = record { x = x; y = y; log2 = log2; kind = kind }
+abbrev pub unit_at : CodingBlock → MoveKind → MoveLeaf
+unit_at block kind = record { block = block; kind = kind }
 
 abbrev pub one_unit : ℕ → MoveLeaf → MovePlan
 one_unit cost unit = record { cost = cost; units = unit ∷ [] }
@@ -47,28 +48,28 @@ tried_vectors = no_motion ∷ flat_map (λ d. vectors_of (suc d)) (below 64)
 -- the block equals the block of the previous picture that the vector names, wholly in the coded picture
 unfoldable pub is_copy_by : Picture → Picture → Size → Leaf → Vector → Bool
 is_copy_by prev now size leaf v =
-    has_source size leaf.x leaf.y leaf.log2 v
+    has_source size leaf.block v
     && list_all (λ component. same (moved_samples prev leaf v component) (samples_in now leaf component)) (below 3)
 
 abbrev pub skip_plans : Picture → Picture → Size → List Moving → MoveLeaf → List MovePlan
 skip_plans prev now size before unit =
-    if is_copy_by prev now size (leaf_as_coded unit) (merge before unit.x unit.y unit.log2) then one_unit 1 unit ∷ [] else []
+    if is_copy_by prev now size (leaf_as_coded unit) (merge before unit.block) then one_unit 1 unit ∷ [] else []
 
-abbrev pub move_plans : Picture → Picture → Size → ℕ → ℕ → ℕ → List MovePlan
-move_plans prev now size x y log2 =
-    map (λ v. one_unit 16 (unit_at x y log2 (moves.Move v)))
-    (filter (λ v. is_copy_by prev now size (leaf_as_coded (unit_at x y log2 (moves.Move v))) v) tried_vectors)
+abbrev pub move_plans : Picture → Picture → Size → CodingBlock → List MovePlan
+move_plans prev now size block =
+    map (λ v. one_unit 16 (unit_at block (moves.Move v)))
+    (filter (λ v. is_copy_by prev now size (leaf_as_coded (unit_at block (moves.Move v))) v) tried_vectors)
 
-abbrev pub intra_plans : Picture → Size → ℕ → ℕ → ℕ → ℕ → List MovePlan
-intra_plans now size effort x y log2 =
-    map (λ mode. one_unit (intra_cost size now (leaf_with x y log2 (Intra mode))) (unit_at x y log2 (moves.Intra mode))) (modes_of effort)
+abbrev pub intra_plans : Picture → Size → ℕ → CodingBlock → List MovePlan
+intra_plans now size effort block =
+    map (λ mode. one_unit (intra_cost size now (leaf_with block (Intra mode))) (unit_at block (moves.Intra mode))) (modes_of effort)
 
 -- the cheapest unit: a skip first, then the moves in order, then the modes in order, then samples
-unfoldable pub unit_plan : Picture → Picture → Size → ℕ → List Moving → ℕ → ℕ → ℕ → MovePlan
-unit_plan prev now size effort before x y log2 =
+unfoldable pub unit_plan : Picture → Picture → Size → ℕ → List Moving → CodingBlock → MovePlan
+unit_plan prev now size effort before block =
     best_of
-    (skip_plans prev now size before (unit_at x y log2 moves.Skip) ++ move_plans prev now size x y log2 ++ intra_plans now size effort x y log2)
-    (one_unit (pcm_cost log2) (unit_at x y log2 moves.Pcm))
+    (skip_plans prev now size before (unit_at block moves.Skip) ++ move_plans prev now size block ++ intra_plans now size effort block)
+    (one_unit (pcm_cost block.log2) (unit_at block moves.Pcm))
 
 abbrev pub no_units : MovePlan
 no_units = record { cost = 0; units = [] }
@@ -87,11 +88,11 @@ split_plan go half x y before =
 -- the block of side 2 ^ (3 + depth) at (x, y), after these units. A unit wins a tie against a split
 abbrev pub plan : Picture → Picture → Size → ℕ → ℕ → ℕ → ℕ → List Moving → MovePlan
 plan prev now size effort zero x y before =
-    if is_inside size x y then unit_plan prev now size effort before x y 3 else no_units
+    if is_inside size x y then unit_plan prev now size effort before (block_at x y 3) else no_units
 plan prev now size effort (suc depth) x y before =
     let half : ℕ = 2 ^ (3 + depth) in
     let split : MovePlan = split_plan (plan prev now size effort depth) half x y before in
-    let best : MovePlan = cheaper (unit_plan prev now size effort before x y (4 + depth)) split in
+    let best : MovePlan = cheaper (unit_plan prev now size effort before (block_at x y (4 + depth))) split in
     if not (is_inside size x y) then no_units
     else if not (is_whole size (2 * half) x y) then split
     else best

@@ -4,6 +4,7 @@ use Rattle.std.specs.List.{range_with_len, AllByRecursion}
 use Rattle.h265_model.specs.declared.Item.{Item}
 use Rattle.h265_model.specs.declared.Place.TheVariants.{Context, Bypass, Terminate}
 use Rattle.h265_model.specs.declared.Item.TheVariants as items
+use Rattle.h265_model.specs.declared.block.CodingBlock.{CodingBlock}
 use Rattle.h265_model.specs.declared.leaf.Kind.{Kind}
 use Rattle.h265_model.specs.declared.leaf.Leaf.{Leaf}
 
@@ -56,14 +57,24 @@ bypass_bin value = items.Bin (record { value = value; place = Bypass })
 abbrev pub terminate_bin : Bool → Item
 terminate_bin value = items.Bin (record { value = value; place = Terminate })
 
-abbrev pub leaf_with : ℕ → ℕ → ℕ → Kind → Leaf
-leaf_with x y log2 kind = record { x = x; y = y; log2 = log2; kind = kind }
+-- the coding block of side 2 ^ log2 at (x, y) (7.4.9.5)
+abbrev pub block_at : ℕ → ℕ → ℕ → CodingBlock
+block_at x y log2 = record { x = x; y = y; log2 = log2 }
+
+-- its side (nCbS)
+abbrev pub side : CodingBlock → ℕ
+side block = 2 ^ block.log2
+
+abbrev pub leaf_with : CodingBlock → Kind → Leaf
+leaf_with block kind = record { block = block; kind = kind }
 
 abbrev pub leaf_side : Leaf → ℕ
-leaf_side leaf = 2 ^ leaf.log2
+leaf_side leaf = side leaf.block
 
+-- a place lies in the block of a coding unit
 abbrev pub covers : ℕ → ℕ → Leaf → Bool
-covers x y leaf = nat_le leaf.x x && nat_lt x (leaf.x + leaf_side leaf) && nat_le leaf.y y && nat_lt y (leaf.y + leaf_side leaf)
+covers x y leaf =
+    nat_le leaf.block.x x && nat_lt x (leaf.block.x + leaf_side leaf) && nat_le leaf.block.y y && nat_lt y (leaf.block.y + leaf_side leaf)
 
 -- a picture whose samples are bytes
 pub record IsPicture (picture : Picture) : Type 0 where

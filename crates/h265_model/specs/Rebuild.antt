@@ -17,12 +17,12 @@ sums (p ∷ predicted) (v ∷ levels) = clip 0 255 (pos p +ℤ v) ∷ sums predi
 -- a picture with a block laid in
 abbrev pub with_block : Picture → Leaf → (ℕ → List ℕ) → Picture
 with_block now leaf blocks component x y =
-    if covers x y leaf then get_or (blocks component) ((y - leaf.y) * leaf_side leaf + (x - leaf.x)) 0 else now component x y
+    if covers x y leaf then get_or (blocks component) ((y - leaf.block.y) * leaf_side leaf + (x - leaf.block.x)) 0 else now component x y
 
 -- 8.5.3.3.3: the block of a picture that a vector in whole samples names
 unfoldable pub moved_samples : Picture → Leaf → Vector → ℕ → List ℕ
 moved_samples prev leaf v component =
-    square (leaf_side leaf) (λ x y. prev component (moved (leaf.x + x) v.x) (moved (leaf.y + y) v.y))
+    square (leaf_side leaf) (λ x y. prev component (moved (leaf.block.x + x) v.x) (moved (leaf.block.y + y) v.y))
 
 -- a block of one component: copied, the samples read, or prediction and levels
 unfoldable pub block_of : Size → Picture → Picture → Leaf → Content → ℕ → List ℕ
@@ -30,7 +30,7 @@ block_of size prev now leaf (Copied v) component = moved_samples prev leaf v com
 block_of size prev now leaf (Moved v) component = moved_samples prev leaf v component
 block_of size prev now leaf (Samples planes) component = get_or planes component []
 block_of size prev now leaf (Levels mode planes) component =
-    sums (prediction size now mode component leaf.x leaf.y leaf.log2) (get_or planes component [])
+    sums (prediction size now mode component leaf.block) (get_or planes component [])
 
 abbrev pub with_unit : Size → Picture → Picture → ReadUnit → Picture
 with_unit size prev now read = with_block now (leaf_of read) (block_of size prev now (leaf_of read) read.content)

@@ -1,5 +1,7 @@
 -- The sizes of pictures, and how a list of them is coded.
-use Rattle.std.specs.Prelude.{ℕ, ◌*◌, Bool, ◌&&◌, nat_le}
+use Rattle.std.specs.Prelude.{ℕ, ◌*◌, Bool, true, false, ◌&&◌, nat_le}
+use Rattle.h265_model.specs.declared.extra.Extra.{Extra}
+use Rattle.h265_model.specs.declared.extra.Extra.TheVariants.{Plain, Hash, Segments, Moves}
 use Rattle.h265_model.specs.Plain.{Size}
 
 -- the limits on a side and on the area
@@ -12,8 +14,20 @@ most_area = 8847360
 abbrev pub is_size : Size → Bool
 is_size s = nat_le 1 s.w && nat_le s.w most_side && nat_le 1 s.h && nat_le s.h most_side && nat_le (s.w * s.h) most_area
 
--- how pictures are coded: their size, the effort, and how far IDR pictures stand apart
+-- how pictures are coded: their size, the effort, how far IDR pictures stand apart, and what the stream has besides pictures
 pub record Settings : Type 0 where
   pub size : Size
   pub effort : ℕ
   pub key : ℕ
+  pub extra : Extra
+
+-- pictures alone, each in a slice
+abbrev pub plain : Size → ℕ → ℕ → Settings
+plain size effort key = record { size = size; effort = effort; key = key; extra = Plain }
+
+-- each row of coding tree units is a slice segment of its own
+abbrev pub has_segments : Extra → Bool
+has_segments Plain = false
+has_segments Hash = false
+has_segments Segments = true
+has_segments Moves = false

@@ -8,24 +8,27 @@ use Rattle.h265_model.specs.Bits.{◌>>=◌, bits}
 use Rattle.h265_model.specs.Engine.{start, is_done, Engine, Reader, give}
 use Rattle.h265_model.specs.Contexts.{row_start}
 use Rattle.h265_model.specs.Code.{code, contexts_after}
-use Rattle.h265_model.specs.Tree.{Source, ctus_items, items_of_row, IsSource, AreLawfulTrees, expect, is_last, ReadUnit, ReadCtu, units_of, units_after, ctus_read, ends_row}
+use Rattle.h265_model.specs.Tree.{Units, Source, ctus_items, items_of_row, items_of_segment, IsSource, AreLawfulTrees, expect, is_last, ReadUnit, ReadCtu, units_of, units_after, ctus_read, ends_row}
 use Rattle.h265_model.specs.declared.Place.TheVariants.{Terminate}
 use Rattle.h265_model.specs.Engine as Engine
 use Rattle.h265_model.specs.Motion.{Moving}
 
--- ---- writing, given the leaves of all CTUs
+-- ---- writing, with the units of each coding tree unit of the picture
 
--- the contexts that a row starts from: those after the second CTU of the row above, where there are such (9.3.1)
-unfoldable pub contexts_at : SliceKind → Size → Source → List (List Leaf) → ℕ → List ℕ
-contexts_at kind size source leaves zero = row_start kind (ctus size.w) 0 []
-contexts_at kind size source leaves (suc row) =
+-- the contexts that a row starts from: those after the second coding tree unit of the row above, where there are such (9.3.1).
+-- The flags between coding tree units have no contexts, so these are the same in slices and segments
+unfoldable pub contexts_at : {Unit Kept : Type 0} → SliceKind → Units Unit Kept → Size → List (List Unit) → ℕ → List ℕ
+contexts_at kind units size lists zero = row_start kind (ctus size.w) 0 []
+contexts_at kind units size lists (suc row) =
     row_start kind (ctus size.w) (suc row)
-    (contexts_after (ctus_items kind size source leaves row 2) (contexts_at kind size source leaves row))
+    (contexts_after (ctus_items units size (is_last size) lists row 2) (contexts_at kind units size lists row))
 
--- the bytes of a row
-abbrev pub row_code : SliceKind → Size → Source → List (List Leaf) → ℕ → List ℕ
-row_code kind size source leaves row =
-    code (items_of_row kind size source leaves row) (contexts_at kind size source leaves row)
+-- the bytes of a row, and of the data of a row that is a segment
+abbrev pub row_code : {Unit Kept : Type 0} → SliceKind → Units Unit Kept → Size → List (List Unit) → ℕ → List ℕ
+row_code kind units size lists row = code (items_of_row units size lists row) (contexts_at kind units size lists row)
+
+abbrev pub segment_code : {Unit Kept : Type 0} → SliceKind → Units Unit Kept → Size → List (List Unit) → ℕ → List ℕ
+segment_code kind units size lists row = code (items_of_segment units size lists row) (contexts_at kind units size lists row)
 
 -- ---- reading
 

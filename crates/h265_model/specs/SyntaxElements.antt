@@ -1,87 +1,77 @@
--- The syntax elements of slice data whose bins have contexts (7.3.8). Each name is the number of its first context variable
--- among the 130 that `Tables` lists (9.3.2.2, Table 9-4); where an element has several, ctxInc is added to it (9.3.4.2).
+-- The syntax elements of slice data whose bins have contexts (7.3.8), by their names: each is the number of its first context
+-- variable (9.3.2.2, Table 9-4), to which ctxInc is added where it has several (9.3.4.2).
 use Rattle.std.specs.Prelude.{ℕ}
+use Rattle.h265_model.specs.declared.syntax_elements.TheConstants.{SPLIT_CU_FLAG, CU_TRANSQUANT_BYPASS_FLAG, CU_SKIP_FLAG, PRED_MODE_FLAG, PART_MODE, PREV_INTRA_LUMA_PRED_FLAG, INTRA_CHROMA_PRED_MODE, RQT_ROOT_CBF, MERGE_FLAG, MVP_L0_FLAG, ABS_MVD_GREATER0_FLAG, ABS_MVD_GREATER1_FLAG, CBF_LUMA, CBF_CB, CBF_CR, LAST_SIG_COEFF_X_PREFIX, LAST_SIG_COEFF_Y_PREFIX, CODED_SUB_BLOCK_FLAG, SIG_COEFF_FLAG, COEFF_ABS_LEVEL_GREATER1_FLAG, COEFF_ABS_LEVEL_GREATER2_FLAG}
 
 -- ---- the coding quadtree (7.3.8.4)
 
--- 3 contexts, by how many neighbours are deeper (9.3.4.2.2)
 abbrev pub split_cu_flag : ℕ
-split_cu_flag = 1
+split_cu_flag = SPLIT_CU_FLAG
 
 -- ---- the coding unit (7.3.8.5)
 
 abbrev pub cu_transquant_bypass_flag : ℕ
-cu_transquant_bypass_flag = 0
+cu_transquant_bypass_flag = CU_TRANSQUANT_BYPASS_FLAG
 
--- 3 contexts, by how many neighbours are skipped (9.3.4.2.2)
 abbrev pub cu_skip_flag : ℕ
-cu_skip_flag = 4
+cu_skip_flag = CU_SKIP_FLAG
 
 abbrev pub pred_mode_flag : ℕ
-pred_mode_flag = 7
+pred_mode_flag = PRED_MODE_FLAG
 
--- its first bin, the only one that occurs
 abbrev pub part_mode : ℕ
-part_mode = 8
+part_mode = PART_MODE
 
 abbrev pub prev_intra_luma_pred_flag : ℕ
-prev_intra_luma_pred_flag = 9
+prev_intra_luma_pred_flag = PREV_INTRA_LUMA_PRED_FLAG
 
--- its first bin, the only one that occurs
 abbrev pub intra_chroma_pred_mode : ℕ
-intra_chroma_pred_mode = 10
+intra_chroma_pred_mode = INTRA_CHROMA_PRED_MODE
 
 abbrev pub rqt_root_cbf : ℕ
-rqt_root_cbf = 129
+rqt_root_cbf = RQT_ROOT_CBF
 
 -- ---- the prediction unit and its vector differences (7.3.8.6, 7.3.8.9)
 
 abbrev pub merge_flag : ℕ
-merge_flag = 125
+merge_flag = MERGE_FLAG
 
 abbrev pub mvp_l0_flag : ℕ
-mvp_l0_flag = 126
+mvp_l0_flag = MVP_L0_FLAG
 
 abbrev pub abs_mvd_greater0_flag : ℕ
-abs_mvd_greater0_flag = 127
+abs_mvd_greater0_flag = ABS_MVD_GREATER0_FLAG
 
 abbrev pub abs_mvd_greater1_flag : ℕ
-abs_mvd_greater1_flag = 128
+abs_mvd_greater1_flag = ABS_MVD_GREATER1_FLAG
 
--- ---- the transform tree (7.3.8.8), at trafoDepth 0 alone
+-- ---- the transform tree (7.3.8.8)
 
 abbrev pub cbf_luma : ℕ
-cbf_luma = 11
+cbf_luma = CBF_LUMA
 
--- one context for both
 abbrev pub cbf_cb : ℕ
-cbf_cb = 12
+cbf_cb = CBF_CB
 
 abbrev pub cbf_cr : ℕ
-cbf_cr = 12
+cbf_cr = CBF_CR
 
 -- ---- the residual (7.3.8.11)
 
--- 18 contexts (9.3.4.2.3)
 abbrev pub last_sig_coeff_x_prefix : ℕ
-last_sig_coeff_x_prefix = 13
+last_sig_coeff_x_prefix = LAST_SIG_COEFF_X_PREFIX
 
--- 18 contexts (9.3.4.2.3)
 abbrev pub last_sig_coeff_y_prefix : ℕ
-last_sig_coeff_y_prefix = 31
+last_sig_coeff_y_prefix = LAST_SIG_COEFF_Y_PREFIX
 
--- 4 contexts (9.3.4.2.4)
 abbrev pub coded_sub_block_flag : ℕ
-coded_sub_block_flag = 49
+coded_sub_block_flag = CODED_SUB_BLOCK_FLAG
 
--- 42 contexts, of which chroma has those from 27 on (9.3.4.2.5)
 abbrev pub sig_coeff_flag : ℕ
-sig_coeff_flag = 53
+sig_coeff_flag = SIG_COEFF_FLAG
 
--- 24 contexts (9.3.4.2.6)
 abbrev pub coeff_abs_level_greater1_flag : ℕ
-coeff_abs_level_greater1_flag = 95
+coeff_abs_level_greater1_flag = COEFF_ABS_LEVEL_GREATER1_FLAG
 
--- 6 contexts (9.3.4.2.7)
 abbrev pub coeff_abs_level_greater2_flag : ℕ
-coeff_abs_level_greater2_flag = 119
+coeff_abs_level_greater2_flag = COEFF_ABS_LEVEL_GREATER2_FLAG

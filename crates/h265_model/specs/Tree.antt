@@ -11,7 +11,8 @@ use Rattle.h265_model.specs.declared.leaf.SliceKind.TheVariants.{I, P}
 use Rattle.h265_model.specs.declared.leaf.Kind.{Kind}
 use Rattle.h265_model.specs.declared.leaf.Kind.TheVariants.{Skip, Pcm, Intra}
 use Rattle.h265_model.specs.declared.leaf.Leaf.{Leaf}
-use Rattle.h265_model.specs.Plain.{Size, Picture, coded, ctus, below, context_bin, terminate_bin, joined, ctu_x, ctu_y, leaf_side, covers, leaf_with}
+use Rattle.h265_model.specs.declared.block.CodingBlock.{CodingBlock}
+use Rattle.h265_model.specs.Plain.{Size, Picture, coded, ctus, below, context_bin, terminate_bin, joined, ctu_x, ctu_y, block_at, side, leaf_side, covers, leaf_with}
 use Rattle.h265_model.specs.SyntaxElements.{split_cu_flag, cu_skip_flag, cbf_cb, cbf_cr, cu_transquant_bypass_flag, pred_mode_flag, part_mode, intra_chroma_pred_mode, cbf_luma, merge_flag, rqt_root_cbf}
 use Rattle.h265_model.specs.Engine.{Reader, ◌>>=◌, give, refuse, bin, samples}
 use Rattle.h265_model.specs.Residual.{Shape, scan_kind, cbf, residual_items, residual_read, AreLevels}
@@ -20,7 +21,10 @@ use Rattle.h265_model.specs.Predict.{is_inside, square, prediction}
 use Rattle.h265_model.specs.Bits.{digit}
 use Rattle.h265_model.specs.Code.{contexts_after}
 use Rattle.h265_model.specs.declared.moves.Vector.{Vector}
-use Rattle.h265_model.specs.Motion.{Moving, leaves, merge, predictors, has_source, vector_read}
+use Rattle.h265_model.specs.declared.moves.MoveKind.{MoveKind}
+use Rattle.h265_model.specs.declared.moves.MoveKind.TheVariants as moves
+use Rattle.h265_model.specs.declared.moves.MoveLeaf.{MoveLeaf}
+use Rattle.h265_model.specs.Motion.{Moving, leaves, leaf_as_coded, coded_after, merge, predictors, move_items, has_source, vector_read}
 
 -- ---- leaves that are coded already
 
@@ -44,8 +48,8 @@ abbrev pub how_many : (Leaf → Bool) → List Leaf → ℕ → ℕ → ℕ
 how_many test leaves x y = digit (passes test (left_of leaves x y)) + digit (passes test (above leaves x y))
 
 -- 9.3.4.2.2: split_cu_flag, by the neighbours that are deeper than a block of this side
-unfoldable pub split_context : List Leaf → ℕ → ℕ → ℕ → ℕ
-split_context leaves x y log2 = split_cu_flag + how_many (λ leaf. nat_lt leaf.log2 log2) leaves x y
+unfoldable pub split_context : List Leaf → CodingBlock → ℕ
+split_context leaves block = split_cu_flag + how_many (λ leaf. nat_lt leaf.block.log2 block.log2) leaves block.x block.y
 
 abbrev pub is_skipped : Kind → Bool
 is_skipped Skip = true
@@ -91,14 +95,14 @@ content_items source before leaf Pcm =
     terminate_bin true ∷ map items.Sample (source.samples leaf 0 ++ source.samples leaf 1 ++ source.samples leaf 2)
 content_items source before leaf (Intra mode) =
     terminate_bin false
-    ∷ (mode_items mode (candidates_at before leaf.x leaf.y)
+    ∷ (mode_items mode (candidates_at before leaf.block.x leaf.block.y)
     ++ (context_bin false intra_chroma_pred_mode
     ∷ context_bin (cbf (source.levels leaf 1)) cbf_cb
     ∷ context_bin (cbf (source.levels leaf 2)) cbf_cr
     ∷ context_bin (cbf (source.levels leaf 0)) cbf_luma
-    ∷ (residual_if leaf.log2 mode 0 (source.levels leaf 0)
-    ++ (residual_if leaf.log2 mode 1 (source.levels leaf 1)
-    ++ residual_if leaf.log2 mode 2 (source.levels leaf 2)))))
+    ∷ (residual_if leaf.block.log2 mode 0 (source.levels leaf 0)
+    ++ (residual_if leaf.block.log2 mode 1 (source.levels leaf 1)
+    ++ residual_if leaf.block.log2 mode 2 (source.levels leaf 2)))))
 
 abbrev pub in_P : SliceKind → List Item → List Item
 in_P I list = []
@@ -107,67 +111,126 @@ in_P P list = list
 -- 7.3.8.5
 unfoldable pub coding_unit_items : SliceKind → Source → List Leaf → Leaf → List Item
 coding_unit_items kind source before leaf =
-    (context_bin true cu_transquant_bypass_flag ∷ in_P kind (context_bin (is_skipped leaf.kind) (skip_context before leaf.x leaf.y) ∷ []))
+    (context_bin true cu_transquant_bypass_flag ∷ in_P kind (context_bin (is_skipped leaf.kind) (skip_context before leaf.block.x leaf.block.y) ∷ []))
     ++ (if is_skipped leaf.kind then []
     else in_P kind (context_bin true pred_mode_flag ∷ [])
-    ++ ((if leaf.log2 == 3 then context_bin true part_mode ∷ [] else [])
+    ++ ((if leaf.block.log2 == 3 then context_bin true part_mode ∷ [] else [])
     ++ content_items source before leaf leaf.kind))
 
--- items, the leaves coded after them, and the leaves still to come
-pub record Walk : Type 0 where
+-- ---- coding units that are written one after another
+
+-- What is written of units, whatever is kept of them once they are coded: the block of a unit to come, its items after the units
+-- before it, what is kept of these and then of more units, and the leaves that contexts look at
+pub record Units (Unit Kept : Type 0) : Type 0 where
+  pub block : Unit → CodingBlock
+  pub items : List Kept → Unit → List Item
+  pub after : List Kept → List Unit → List Kept
+  pub leaves : List Kept → List Leaf
+
+-- leaves, of which nothing else is kept: units where no blocks move (7.3.8.5)
+abbrev pub leaf_block : Leaf → CodingBlock
+leaf_block leaf = leaf.block
+
+abbrev pub leaf_units : SliceKind → Source → Units Leaf Leaf
+leaf_units kind source = record {
+  block = leaf_block;
+  items = coding_unit_items kind source;
+  after = λ before units. before ++ units;
+  leaves = λ before. before;
+}
+
+-- units with the vectors that are kept of them, by what is written of each
+abbrev pub UnitItems : Type 0
+UnitItems = List Moving → MoveLeaf → List Item
+
+abbrev pub unit_block : MoveLeaf → CodingBlock
+unit_block unit = unit.block
+
+abbrev pub moving : UnitItems → Units MoveLeaf Moving
+moving items = record { block = unit_block; items = items; after = coded_after; leaves = leaves }
+
+-- a unit of a stream without moves, as such a one
+abbrev pub still_unit : SliceKind → Source → UnitItems
+still_unit kind source before unit = coding_unit_items kind source (leaves before) (leaf_as_coded unit)
+
+-- a moved unit of a P slice: cu_transquant_bypass_flag, cu_skip_flag 0, pred_mode_flag 0, part_mode, and the vector with rqt_root_cbf (7.3.8.5)
+unfoldable pub moved_unit : List Moving → MoveLeaf → Vector → List Item
+moved_unit before unit v =
+    (context_bin true cu_transquant_bypass_flag
+    ∷ context_bin false (skip_context (leaves before) unit.block.x unit.block.y)
+    ∷ context_bin false pred_mode_flag
+    ∷ context_bin true part_mode
+    ∷ [])
+    ++ move_items v (predictors before unit.block)
+
+abbrev pub unit_of_kind : SliceKind → Source → List Moving → MoveLeaf → MoveKind → List Item
+unit_of_kind kind source before unit (moves.Move v) = moved_unit before unit v
+unit_of_kind kind source before unit moves.Skip = still_unit kind source before unit
+unit_of_kind kind source before unit moves.Pcm = still_unit kind source before unit
+unit_of_kind kind source before unit (moves.Intra mode) = still_unit kind source before unit
+
+-- 7.3.8.5 where blocks may move: all but moved units as without
+unfoldable pub move_unit : SliceKind → Source → UnitItems
+move_unit kind source before unit = unit_of_kind kind source before unit unit.kind
+
+-- ---- the walk of a tree
+
+-- items, what is kept of the units before and of those written, and the units still to come
+pub record Walk (Unit Kept : Type 0) : Type 0 where
   pub list : List Item
-  pub before : List Leaf
-  pub left : List Leaf
+  pub before : List Kept
+  pub left : List Unit
 
-abbrev pub walk_on : List Item → Walk → Walk
-walk_on list w = record w { list = list ++ w.list }
+abbrev pub walk_on : {Unit Kept : Type 0} → List Item → Walk Unit Kept → Walk Unit Kept
+walk_on list w = record { list = list ++ w.list; before = w.before; left = w.left }
 
-abbrev pub and_walk : Walk → (List Leaf → List Leaf → Walk) → Walk
+abbrev pub and_walk : {Unit Kept : Type 0} → Walk Unit Kept → (List Kept → List Unit → Walk Unit Kept) → Walk Unit Kept
 and_walk w go = walk_on w.list (go w.before w.left)
 
 -- the four quarters in order, each of this side
-abbrev pub quarters : (ℕ → ℕ → List Leaf → List Leaf → Walk) → ℕ → ℕ → ℕ → List Leaf → List Leaf → Walk
+abbrev pub quarters : {Unit Kept : Type 0} → (ℕ → ℕ → List Kept → List Unit → Walk Unit Kept) → ℕ → ℕ → ℕ → List Kept → List Unit → Walk Unit Kept
 quarters go half x y before left =
     and_walk (and_walk (and_walk (go x y before left) (go (x + half) y)) (go x (y + half))) (go (x + half) (y + half))
 
-abbrev pub coding_unit_walk : SliceKind → Source → List Leaf → List Leaf → Walk
-coding_unit_walk kind source before [] = record { list = []; before = before; left = [] }
-coding_unit_walk kind source before (leaf ∷ leaves) = record { list = coding_unit_items kind source before leaf; before = before ++ leaf ∷ []; left = leaves }
-
-abbrev pub no_walk : List Leaf → List Leaf → Walk
+abbrev pub no_walk : {Unit Kept : Type 0} → List Kept → List Unit → Walk Unit Kept
 no_walk before left = record { list = []; before = before; left = left }
+
+abbrev pub coding_unit_walk : {Unit Kept : Type 0} → Units Unit Kept → List Kept → List Unit → Walk Unit Kept
+coding_unit_walk units before [] = no_walk before []
+coding_unit_walk units before (unit ∷ left) =
+    record { list = units.items before unit; before = units.after before (unit ∷ []); left = left }
 
 abbrev pub is_whole : Size → ℕ → ℕ → ℕ → Bool
 is_whole size side x y = nat_le (x + side) (coded size.w) && nat_le (y + side) (coded size.h)
 
-abbrev pub is_leaf : ℕ → List Leaf → Bool
-is_leaf log2 [] = false
-is_leaf log2 (leaf ∷ leaves) = leaf.log2 == log2
+-- the next unit has the side 2 ^ log2
+abbrev pub is_next : {Unit : Type 0} → (Unit → CodingBlock) → ℕ → List Unit → Bool
+is_next block log2 [] = false
+is_next block log2 (unit ∷ left) = (block unit).log2 == log2
 
--- 7.3.8.4: the block of side 2 ^ (3 + depth) at (x, y), of the leaves that come next
-abbrev pub tree_walk : SliceKind → Size → Source → ℕ → ℕ → ℕ → List Leaf → List Leaf → Walk
-tree_walk kind size source zero x y before left =
-    let unit : Walk = coding_unit_walk kind source before left in
+-- 7.3.8.4: the block of side 2 ^ (3 + depth) at (x, y), of the units that come next
+abbrev pub tree_walk : {Unit Kept : Type 0} → Units Unit Kept → Size → ℕ → ℕ → ℕ → List Kept → List Unit → Walk Unit Kept
+tree_walk {Unit} {Kept} units size zero x y before left =
+    let unit : Walk Unit Kept = coding_unit_walk units before left in
     if is_inside size x y then unit else no_walk before left
-tree_walk kind size source (suc depth) x y before left =
+tree_walk {Unit} {Kept} units size (suc depth) x y before left =
     let half : ℕ = 2 ^ (3 + depth) in
-    let split : Walk = quarters (tree_walk kind size source depth) half x y before left in
-    let flag : ℕ = split_context before x y (4 + depth) in
-    let whole : Walk = walk_on (context_bin false flag ∷ []) (coding_unit_walk kind source before left) in
-    let flagged : Walk = walk_on (context_bin true flag ∷ []) split in
+    let split : Walk Unit Kept = quarters (tree_walk units size depth) half x y before left in
+    let flag : ℕ = split_context (units.leaves before) (block_at x y (4 + depth)) in
+    let whole : Walk Unit Kept = walk_on (context_bin false flag ∷ []) (coding_unit_walk units before left) in
+    let flagged : Walk Unit Kept = walk_on (context_bin true flag ∷ []) split in
     if not (is_inside size x y) then no_walk before left
     else if not (is_whole size (2 * half) x y) then split
-    else if is_leaf (4 + depth) left then whole
+    else if is_next units.block (4 + depth) left then whole
     else flagged
 
 -- 7.3.8.2: the items of one coding tree unit
-unfoldable pub ctu_items : SliceKind → Size → Source → List Leaf → List Leaf → ℕ → List Item
-ctu_items kind size source before leaves ctu =
-    (tree_walk kind size source 2 (ctu_x size ctu) (ctu_y size ctu) before leaves).list
+unfoldable pub ctu_items : {Unit Kept : Type 0} → Units Unit Kept → Size → List Kept → List Unit → ℕ → List Item
+ctu_items units size before list ctu = (tree_walk units size 2 (ctu_x size ctu) (ctu_y size ctu) before list).list
 
 -- what a picture gives of a leaf: samples, and samples less prediction
 abbrev pub samples_in : Picture → Leaf → ℕ → List ℕ
-samples_in picture leaf component = square (leaf_side leaf) (λ x y. picture component (leaf.x + x) (leaf.y + y))
+samples_in picture leaf component = square (leaf_side leaf) (λ x y. picture component (leaf.block.x + x) (leaf.block.y + y))
 
 abbrev pub differences : List ℕ → List ℕ → List ℤ
 differences [] bs = []
@@ -176,34 +239,47 @@ differences (a ∷ as_) (b ∷ bs) = (pos a -ℤ pos b) ∷ differences as_ bs
 
 abbrev pub levels_in : Size → Picture → Leaf → ℕ → List ℤ
 levels_in size picture leaf component =
-    differences (samples_in picture leaf component) (prediction size picture (mode_of leaf.kind) component leaf.x leaf.y leaf.log2)
+    differences (samples_in picture leaf component) (prediction size picture (mode_of leaf.kind) component leaf.block)
 
 unfoldable pub source_of : Size → Picture → Source
 source_of size picture = record { levels = levels_in size picture; samples = samples_in picture }
 
--- ---- the items of a row (7.3.8.1)
+-- ---- the items of a row (7.3.8.1), with the units of each coding tree unit of the picture
 
--- end_of_slice_segment_flag is 1 after the last coding tree unit of the picture
+-- end_of_slice_segment_flag is 1 after the last coding tree unit of the picture, where that is one segment
 abbrev pub is_last : Size → ℕ → Bool
 is_last size ctu = ctu + 1 == ctus size.w * ctus size.h
 
-abbrev pub ctu_with_flag : SliceKind → Size → Source → List (List Leaf) → ℕ → List Item
-ctu_with_flag kind size source leaves ctu =
-    ctu_items kind size source (joined (take ctu leaves)) (get_or leaves ctu []) ctu ++ terminate_bin (is_last size ctu) ∷ []
+-- and after the last one of a row, where each row is a segment
+abbrev pub ends_row : Size → ℕ → Bool
+ends_row size ctu = (ctu + 1) % ctus size.w == 0
 
--- the coding tree units of the first n of a row
-abbrev pub ctus_items : SliceKind → Size → Source → List (List Leaf) → ℕ → ℕ → List Item
-ctus_items kind size source leaves row n =
-    flat_map (λ i. ctu_with_flag kind size source leaves (row * ctus size.w + i)) (below n)
+-- a coding tree unit with its end_of_slice_segment_flag
+abbrev pub ctu_with_flag : {Unit Kept : Type 0} → Units Unit Kept → Size → (ℕ → Bool) → List (List Unit) → ℕ → List Item
+ctu_with_flag units size ends lists ctu =
+    ctu_items units size (units.after [] (joined (take ctu lists))) (get_or lists ctu []) ctu ++ terminate_bin (ends ctu) ∷ []
 
--- with the leaves of each coding tree unit of the picture; end_of_subset_one_bit ends each row but the last
-unfoldable pub items_of_row : SliceKind → Size → Source → List (List Leaf) → ℕ → List Item
-items_of_row kind size source leaves row =
-    ctus_items kind size source leaves row (ctus size.w)
+-- the first n coding tree units of a row
+abbrev pub ctus_items : {Unit Kept : Type 0} → Units Unit Kept → Size → (ℕ → Bool) → List (List Unit) → ℕ → ℕ → List Item
+ctus_items units size ends lists row n =
+    flat_map (λ i. ctu_with_flag units size ends lists (row * ctus size.w + i)) (below n)
+
+-- a row of a slice that is one segment: end_of_subset_one_bit ends each row but the last
+unfoldable pub items_of_row : {Unit Kept : Type 0} → Units Unit Kept → Size → List (List Unit) → ℕ → List Item
+items_of_row units size lists row =
+    ctus_items units size (is_last size) lists row (ctus size.w)
     ++ (if row + 1 == ctus size.h then [] else terminate_bin true ∷ [])
 
+-- a row that is a segment of its own
+unfoldable pub items_of_segment : {Unit Kept : Type 0} → Units Unit Kept → Size → List (List Unit) → ℕ → List Item
+items_of_segment units size lists row = ctus_items units size (ends_row size) lists row (ctus size.w)
+
 abbrev pub row_items : SliceKind → Size → Picture → List (List Leaf) → ℕ → List Item
-row_items kind size picture leaves row = items_of_row kind size (source_of size picture) leaves row
+row_items kind size picture leaves row = items_of_row (leaf_units kind (source_of size picture)) size leaves row
+
+-- the units of the first n coding tree units, coded
+abbrev pub coded_first : List (List MoveLeaf) → ℕ → List Moving
+coded_first units n = coded_after [] (joined (take n units))
 
 -- ---- lawful trees (7.3.8.4)
 
@@ -212,9 +288,9 @@ IsMode Skip = Unit {0}
 IsMode Pcm = Unit {0}
 IsMode (Intra mode) = mode < 35
 
-pub record IsCodingUnit (x y log2 : ℕ) (leaves : List Leaf) : Type 0 where
+pub record IsCodingUnit (block : CodingBlock) (leaves : List Leaf) : Type 0 where
   pub kind : Kind
-  pub one : leaves ≡ record { x = x; y = y; log2 = log2; kind = kind } ∷ []
+  pub one : leaves ≡ leaf_with block kind ∷ []
   pub mode : IsMode kind
 
 pub record AreQuarters (Tree : ℕ → ℕ → List Leaf → Type 0) (half x y : ℕ) (leaves : List Leaf) : Type 0 where
@@ -230,12 +306,12 @@ pub record AreQuarters (Tree : ℕ → ℕ → List Leaf → Type 0) (half x y :
 
 -- the leaves of a block of side 2 ^ (3 + depth) at (x, y), in the order of coding
 abbrev pub IsTree : Size → ℕ → ℕ → ℕ → List Leaf → Type 0
-IsTree size zero x y leaves = MatchBool (is_inside size x y) (IsCodingUnit x y 3 leaves) (leaves ≡ [])
+IsTree size zero x y leaves = MatchBool (is_inside size x y) (IsCodingUnit (block_at x y 3) leaves) (leaves ≡ [])
 IsTree size (suc depth) x y leaves =
     let half : ℕ = 2 ^ (3 + depth) in
     MatchBool (is_inside size x y)
     (MatchBool (is_whole size (2 * half) x y)
-    (IsCodingUnit x y (4 + depth) leaves ⊎ AreQuarters (IsTree size depth) half x y leaves)
+    (IsCodingUnit (block_at x y (4 + depth)) leaves ⊎ AreQuarters (IsTree size depth) half x y leaves)
     (AreQuarters (IsTree size depth) half x y leaves))
     (leaves ≡ [])
 
@@ -272,9 +348,7 @@ pub data Content : Type 0 where
   Levels : ℕ → List (List ℤ) → Content
 
 pub record ReadUnit : Type 0 where
-  pub x : ℕ
-  pub y : ℕ
-  pub log2 : ℕ
+  pub block : CodingBlock
   pub content : Content
 
 -- a moved unit counts as PCM does
@@ -291,7 +365,7 @@ vector_of (Samples planes) = None
 vector_of (Levels mode planes) = None
 
 abbrev pub leaf_of : ReadUnit → Leaf
-leaf_of unit = leaf_with unit.x unit.y unit.log2 (kind_of unit.content)
+leaf_of unit = leaf_with unit.block (kind_of unit.content)
 
 abbrev pub moving_of : ReadUnit → Moving
 moving_of unit = record { leaf = leaf_of unit; vector = vector_of unit.content }
@@ -301,16 +375,16 @@ abbrev pub units_after : List Moving → List ReadUnit → List Moving
 units_after before read = before ++ map moving_of read
 
 -- 7.3.8.10 without a split: intra_chroma_pred_mode, which chooses the luma mode, cbf_cb, cbf_cr, cbf_luma and the residuals
-abbrev pub intra_read : List Moving → ℕ → ℕ → ℕ → Reader Content
-intra_read before x y log2 = do
-  mode ← mode_read (candidates_at (leaves before) x y)
+abbrev pub intra_read : List Moving → CodingBlock → Reader Content
+intra_read before block = do
+  mode ← mode_read (candidates_at (leaves before) block.x block.y)
   expect (Context intra_chroma_pred_mode) false (do
     cb ← bin (Context cbf_cb)
     cr ← bin (Context cbf_cr)
     luma ← bin (Context cbf_luma)
-    first ← component_read log2 mode 0 luma
-    second ← component_read log2 mode 1 cb
-    third ← component_read log2 mode 2 cr
+    first ← component_read block.log2 mode 0 luma
+    second ← component_read block.log2 mode 1 cb
+    third ← component_read block.log2 mode 2 cr
     give (Levels mode (first ∷ second ∷ third ∷ [])))
 
 -- 7.3.8.7
@@ -320,43 +394,43 @@ pcm_read n = do
   give (Samples (thirds n list))
 
 -- pcm_flag
-abbrev pub content_read : List Moving → ℕ → ℕ → ℕ → Reader Content
-content_read before x y log2 = do
+abbrev pub content_read : List Moving → CodingBlock → Reader Content
+content_read before block = do
   pcm ← bin Terminate
-  if pcm then pcm_read (2 ^ log2 * 2 ^ log2) else intra_read before x y log2
+  if pcm then pcm_read (side block * side block) else intra_read before block
 
 -- part_mode, which an intra unit has at side 8 alone
-abbrev pub own_read : List Moving → ℕ → ℕ → ℕ → Reader Content
-own_read before x y log2 = if log2 == 3 then expect (Context part_mode) true (content_read before x y log2) else content_read before x y log2
+abbrev pub own_read : List Moving → CodingBlock → Reader Content
+own_read before block = if block.log2 == 3 then expect (Context part_mode) true (content_read before block) else content_read before block
 
 -- a moved unit: part_mode at each side (PART_2Nx2N), merge_flag 0, the vector, and rqt_root_cbf 0 (7.3.8.5, 7.3.8.6)
-abbrev pub move_read : List Moving → ℕ → ℕ → ℕ → Reader Content
-move_read before x y log2 = expect (Context part_mode) true (expect (Context merge_flag) false (do
-  v ← vector_read (predictors before x y log2)
+abbrev pub move_read : List Moving → CodingBlock → Reader Content
+move_read before block = expect (Context part_mode) true (expect (Context merge_flag) false (do
+  v ← vector_read (predictors before block)
   expect (Context rqt_root_cbf) false (give (Moved v))))
 
 -- pred_mode_flag, in P slices
-abbrev pub coded_read : SliceKind → List Moving → ℕ → ℕ → ℕ → Reader Content
-coded_read I before x y log2 = own_read before x y log2
-coded_read P before x y log2 = do
+abbrev pub coded_read : SliceKind → List Moving → CodingBlock → Reader Content
+coded_read I before block = own_read before block
+coded_read P before block = do
   intra ← bin (Context pred_mode_flag)
-  if intra then own_read before x y log2 else move_read before x y log2
+  if intra then own_read before block else move_read before block
 
 -- a copy needs its source in the coded picture
-abbrev pub is_in_picture : Size → ℕ → ℕ → ℕ → Option Vector → Bool
-is_in_picture size x y log2 None = true
-is_in_picture size x y log2 (Some v) = has_source size x y log2 v
+abbrev pub is_in_picture : Size → CodingBlock → Option Vector → Bool
+is_in_picture size block None = true
+is_in_picture size block (Some v) = has_source size block v
 
-abbrev pub unit_with : Size → ℕ → ℕ → ℕ → Content → Reader (List ReadUnit)
-unit_with size x y log2 content =
-    if is_in_picture size x y log2 (vector_of content) then give (record { x = x; y = y; log2 = log2; content = content } ∷ []) else refuse
+abbrev pub unit_with : Size → CodingBlock → Content → Reader (List ReadUnit)
+unit_with size block content =
+    if is_in_picture size block (vector_of content) then give (record { block = block; content = content } ∷ []) else refuse
 
 -- 7.3.8.5: cu_transquant_bypass_flag, cu_skip_flag, and what follows
-unfoldable pub coding_unit_read : SliceKind → Size → List Moving → ℕ → ℕ → ℕ → Reader (List ReadUnit)
-coding_unit_read kind size before x y log2 = expect (Context cu_transquant_bypass_flag) true (do
-  skipped ← skip_read kind (leaves before) x y
-  content ← if skipped then give (Copied (merge before x y log2)) else coded_read kind before x y log2
-  unit_with size x y log2 content)
+unfoldable pub coding_unit_read : SliceKind → Size → List Moving → CodingBlock → Reader (List ReadUnit)
+coding_unit_read kind size before block = expect (Context cu_transquant_bypass_flag) true (do
+  skipped ← skip_read kind (leaves before) block.x block.y
+  content ← if skipped then give (Copied (merge before block)) else coded_read kind before block
+  unit_with size block content)
 
 abbrev pub quarters_read : (ℕ → ℕ → List Moving → Reader (List ReadUnit)) → ℕ → ℕ → ℕ → List Moving → Reader (List ReadUnit)
 quarters_read go half x y before = do
@@ -368,13 +442,14 @@ quarters_read go half x y before = do
 
 -- 7.3.8.4: the block of side 2 ^ (3 + depth) at (x, y), after these units
 abbrev pub tree_read : SliceKind → Size → ℕ → ℕ → ℕ → List Moving → Reader (List ReadUnit)
-tree_read kind size zero x y before = if is_inside size x y then coding_unit_read kind size before x y 3 else give []
+tree_read kind size zero x y before = if is_inside size x y then coding_unit_read kind size before (block_at x y 3) else give []
 tree_read kind size (suc depth) x y before =
     let half : ℕ = 2 ^ (3 + depth) in
     let split : Reader (List ReadUnit) = quarters_read (tree_read kind size depth) half x y before in
     if not (is_inside size x y) then give []
     else if not (is_whole size (2 * half) x y) then split
-    else (bin (Context (split_context (leaves before) x y (4 + depth))) >>= λ flag. if flag then split else coding_unit_read kind size before x y (4 + depth))
+    else (bin (Context (split_context (leaves before) (block_at x y (4 + depth)))) >>= λ flag.
+    if flag then split else coding_unit_read kind size before (block_at x y (4 + depth)))
 
 -- 7.3.8.2
 unfoldable pub ctu_read : SliceKind → Size → List Moving → ℕ → Reader (List ReadUnit)
@@ -398,17 +473,13 @@ ctus_read kind size ends (suc n) ctu before = do
     others ← ctus_read kind size ends n (suc ctu) (units_after before units)
     give (record { units = units; contexts = contexts } ∷ others))
 
--- the last coding tree unit of a row
-abbrev pub ends_row : Size → ℕ → Bool
-ends_row size ctu = (ctu + 1) % ctus size.w == 0
-
 -- ---- what is written and read back
 
 -- what a source may give of a leaf
 pub record IsSource (source : Source) : Type 0 where
-  pub levels_long : (leaf : Leaf) (component : ℕ) → length (source.levels leaf component) ≡ 2 ^ leaf.log2 * 2 ^ leaf.log2
+  pub levels_long : (leaf : Leaf) (component : ℕ) → length (source.levels leaf component) ≡ leaf_side leaf * leaf_side leaf
   pub levels_fit : (leaf : Leaf) (component : ℕ) → AreLevels (source.levels leaf component)
-  pub samples_long : (leaf : Leaf) (component : ℕ) → length (source.samples leaf component) ≡ 2 ^ leaf.log2 * 2 ^ leaf.log2
+  pub samples_long : (leaf : Leaf) (component : ℕ) → length (source.samples leaf component) ≡ leaf_side leaf * leaf_side leaf
   pub samples_fit : (leaf : Leaf) (component : ℕ) → AllByRecursion (λ x. x < 256) (source.samples leaf component)
 
 -- leaves with modes

@@ -1,5 +1,7 @@
 //! Coding units and the slices that they stand in.
 
+use crate::CodingBlock;
+
 /// The kinds of slice that occur (7.4.7.1, slice_type).
 #[derive(Clone, Copy, Debug, PartialEq, Eq)]
 pub enum SliceKind {
@@ -19,11 +21,9 @@ pub enum Kind {
     Intra(u32),
 }
 
-/// A coding unit: where its block begins, in samples, the base-2 logarithm of its side (3, 4 or 5), and its kind.
+/// A coding unit: its block and its kind.
 #[derive(Clone, Copy, Debug, Default, PartialEq, Eq)]
 pub struct Leaf {
-    pub x: u32,
-    pub y: u32,
-    pub log2: u32,
+    pub block: CodingBlock,
     pub kind: Kind,
 }

@@ -1,6 +1,7 @@
 //! The definitions of H.265 as far as lossless streams of pictures need them, and the plain types that the crates share.
 #![tactic(auto)]
 
+mod block;
 mod extra;
 mod job;
 mod leaf;
@@ -9,7 +10,9 @@ mod memory;
 mod moves;
 mod rect;
 mod rgb;
+pub mod syntax_elements;
 
+pub use block::CodingBlock;
 pub use extra::Extra;
 pub use job::Job;
 pub use leaf::{Kind, Leaf, SliceKind};

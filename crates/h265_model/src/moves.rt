@@ -1,5 +1,7 @@
 //! Coding units that may be copied from another place of the picture before.
 
+use crate::CodingBlock;
+
 /// How far away the block stands that is copied, in whole samples to the right and downwards (8.5.3.2).
 #[derive(Clone, Copy, Debug, PartialEq, Eq)]
 pub struct Vector {
@@ -20,11 +22,9 @@ pub enum MoveKind {
     Intra(u32),
 }
 
-/// A coding unit where blocks may move: where its block begins, in samples, the base-2 logarithm of its side (3, 4 or 5), and its kind.
+/// A coding unit where blocks may move: its block and its kind.
 #[derive(Clone, Copy, Debug, PartialEq, Eq)]
 pub struct MoveLeaf {
-    pub x: u32,
-    pub y: u32,
-    pub log2: u32,
+    pub block: CodingBlock,
     pub kind: MoveKind,
 }
