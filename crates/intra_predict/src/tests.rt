@@ -1,8 +1,9 @@
 //! Digests of predicted blocks from an independent model of the recorder in Python: for each block one over all modes.
 ghost use Rattle.std.specs.Prelude.{◌≡◌, ◌+◌, ◌*◌, ◌<◌, ◌≤◌, ◌%◌, ◌^◌, length, IfOk};
-ghost use Rattle.h265_model.specs.Plain.{coded};
+ghost use Rattle.h265_model.specs.Plain.{coded, side};
 
 use super::predict;
+use h265_model::CodingBlock;
 use intra_refs::{filter, filtered, refs};
 use px_plane::{Picture, Rect, Rgb, Size};
 use std::alloc::Global;
@@ -43,21 +44,21 @@ fn extend(digest: u32, samples: &[u8]) -> u32 {
 }
 
 // A digest of what all modes predict of a block, into a place of its size.
-fn all_modes(picture: &Picture, component: u32, x: u32, y: u32, log2: u32, out: &mut [u8]) -> u32
+fn all_modes(picture: &Picture, component: u32, block: CodingBlock, out: &mut [u8]) -> u32
     requires component { component < 3 }
-    requires low { 3 ≤ log2 }
-    requires high { log2 ≤ 5 }
-    requires whole_x { x % 2 ^ log2 ≡ 0 }
-    requires whole_y { y % 2 ^ log2 ≡ 0 }
-    requires across { x + 2 ^ log2 ≤ coded picture.now.size.w }
-    requires down { y + 2 ^ log2 ≤ coded picture.now.size.h }
-    requires out { length out.old ≡ 2 ^ log2 * 2 ^ log2 }
+    requires low { 3 ≤ block.log2 }
+    requires high { block.log2 ≤ 5 }
+    requires whole_x { block.x % side block ≡ 0 }
+    requires whole_y { block.y % side block ≡ 0 }
+    requires across { block.x + side block ≤ coded picture.now.size.w }
+    requires down { block.y + side block ≤ coded picture.now.size.h }
+    requires out { length out.old ≡ side block * side block }
 {
-    let plain = refs(picture, component, x, y, log2);
+    let plain = refs(picture, component, block);
     let smoothed = filter(&plain);
     let mut digest = 1;
     for mode in 0..35u32 {
-        if filtered(mode, log2) {
+        if filtered(mode, block.log2) {
             predict(mode, component, &smoothed, out);
         } else {
             predict(mode, component, &plain, out);
@@ -83,8 +84,13 @@ fn blocks_of_8(rt: HostRuntime) -> Result<(), Fail> {
         (2, 8, 6, 2362490170),
     ] {
         assert!(rt; component < 3 && x < 9 && y < 7);
+        let block = CodingBlock {
+            x: 8 * x,
+            y: 8 * y,
+            log2: 3,
+        };
         assert_eq!(rt;
-            all_modes(&picture, component, 8 * x, 8 * y, 3, &mut out),
+            all_modes(&picture, component, block, &mut out),
             digest,
             "{component} {x} {y}"
         );
@@ -108,8 +114,13 @@ fn blocks_of_16(rt: HostRuntime) -> Result<(), Fail> {
         (2, 3, 2, 3534363659),
     ] {
         assert!(rt; component < 3 && x < 4 && y < 3);
+        let block = CodingBlock {
+            x: 16 * x,
+            y: 16 * y,
+            log2: 4,
+        };
         assert_eq!(rt;
-            all_modes(&picture, component, 16 * x, 16 * y, 4, &mut out),
+            all_modes(&picture, component, block, &mut out),
             digest,
             "{component} {x} {y}"
         );
@@ -130,8 +141,13 @@ fn blocks_of_32(rt: HostRuntime) -> Result<(), Fail> {
         (2, 1, 0, 1474210122),
     ] {
         assert!(rt; component < 3 && x < 2 && y < 1);
+        let block = CodingBlock {
+            x: 32 * x,
+            y: 32 * y,
+            log2: 5,
+        };
         assert_eq!(rt;
-            all_modes(&picture, component, 32 * x, 32 * y, 5, &mut out),
+            all_modes(&picture, component, block, &mut out),
             digest,
             "{component} {x} {y}"
         );

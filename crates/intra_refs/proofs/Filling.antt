@@ -6,24 +6,25 @@ use Rattle.std.proofs.lemmas.Bool.{cases_lt, cases_eq}
 use Rattle.std.proofs.lemmas.List.{get_or-set_same, get_or-set_other, get_or_append_left, length-set, places}
 use borrow.Rule.Slice.PartMut.{put_mid, mid_of}
 use Rattle.px_plane.proofs.Rows.{get_or-put_mid_before, get_or-put_mid_in}
-use Rattle.h265_model.specs.Plain.{Size, Picture}
+use Rattle.h265_model.specs.declared.block.CodingBlock.{CodingBlock}
+use Rattle.h265_model.specs.Plain.{Size, Picture, side}
 use Rattle.h265_model.specs.Predict.{neighbours, first_seen, filled, substituted}
 use Rattle.intra_refs.specs.Neighbours.{neighbour, left_of, above, value_or, carried, IsFilled, AreAll, AreMissing, IsFirst}
 
 -- ---- where the eights stand
 
-pub left_place : (size : Size) (picture : Picture) (component x y n part row j : ℕ) → n % 8 ≡ 0 → part < n / 4 → row ≡ y + (2 * n - 8 * (part + 1)) → j < 8
-    → neighbour size picture component x y n (8 * part + j) ≡ left_of size picture component x y (row + 8 - j)
-left_place size picture component x y n part row j whole within is h =
-    let column : x + (8 * part + j - 2 * n) ≡ x = omega arith in
-    let place : y + (2 * n - (8 * part + j)) ≡ row + 8 - j = omega arith in
+pub left_place : (size : Size) (picture : Picture) (component : ℕ) (block : CodingBlock) (n part row j : ℕ) → n ≡ side block → n % 8 ≡ 0 → part < n / 4 → row ≡ block.y + (2 * n - 8 * (part + 1)) → j < 8
+    → neighbour size picture component block (8 * part + j) ≡ left_of size picture component block.x block.y (row + 8 - j)
+left_place size picture component block n part row j long whole within is h =
+    let column : block.x + (8 * part + j - 2 * side block) ≡ block.x = omega arith in
+    let place : block.y + (2 * side block - (8 * part + j)) ≡ row + 8 - j = omega arith in
     rw (column, place) refl
 
-pub above_place : (size : Size) (picture : Picture) (component x y n part column j : ℕ) → n % 8 ≡ 0 → part < n / 4 → column ≡ x + 8 * part → j < 8
-    → neighbour size picture component x y n (2 * n + 1 + (8 * part + j)) ≡ above size picture component x y (column + j + 1)
-above_place size picture component x y n part column j whole within is h =
-    let place : x + (2 * n + 1 + (8 * part + j) - 2 * n) ≡ column + j + 1 = omega arith in
-    let row : y + (2 * n - (2 * n + 1 + (8 * part + j))) ≡ y = omega arith in
+pub above_place : (size : Size) (picture : Picture) (component : ℕ) (block : CodingBlock) (part column j : ℕ) → column ≡ block.x + 8 * part → j < 8
+    → neighbour size picture component block (2 * side block + 1 + (8 * part + j)) ≡ above size picture component block.x block.y (column + j + 1)
+above_place size picture component block part column j is h =
+    let place : block.x + (2 * side block + 1 + (8 * part + j) - 2 * side block) ≡ column + j + 1 = omega arith in
+    let row : block.y + (2 * side block - (2 * side block + 1 + (8 * part + j))) ≡ block.y = omega arith in
     rw (place, row) refl
 
 -- ---- what is carried on
@@ -82,14 +83,14 @@ filled_is (v ∷ line) f first a (suc n) long each =
 zero_first : (i : ℕ) → suc i ≡ 0 + suc i
 zero_first i = omega arith
 
-pub line_is : (size : Size) (picture : Picture) (component x y n first : ℕ) (line : List ℕ) → first ≡ first_seen (neighbours size picture component x y n) → length line ≡ 4 * n + 1
-    → ((i : ℕ) → i < 4 * n + 1 → get_or line i 0 ≡ carried first (neighbour size picture component x y n) (suc i))
-    → line ≡ substituted (neighbours size picture component x y n)
+pub line_is : (size : Size) (picture : Picture) (component : ℕ) (block : CodingBlock) (first : ℕ) (line : List ℕ) → first ≡ first_seen (neighbours size picture component block) → length line ≡ 4 * side block + 1
+    → ((i : ℕ) → i < 4 * side block + 1 → get_or line i 0 ≡ carried first (neighbour size picture component block) (suc i))
+    → line ≡ substituted (neighbours size picture component block)
 unfolding neighbours
-line_is size picture component x y n first line is long each =
-    let f : ℕ → Option ℕ = neighbour size picture component x y n in
-    filled_is line f first 0 (4 * n + 1) long (λ i h. each i h ∙ (ap (carried first f) (zero_first i) ∙ sym (carried_on f (λ j. f (0 + j)) first 0 (suc i) (λ j less. refl))))
-    ∙ ap (λ (v : ℕ). filled v (map f (range_with_len 0 (4 * n + 1)))) is
+line_is size picture component block first line is long each =
+    let f : ℕ → Option ℕ = neighbour size picture component block in
+    filled_is line f first 0 (4 * side block + 1) long (λ i h. each i h ∙ (ap (carried first f) (zero_first i) ∙ sym (carried_on f (λ j. f (0 + j)) first 0 (suc i) (λ j less. refl))))
+    ∙ ap (λ (v : ℕ). filled v (map f (range_with_len 0 (4 * side block + 1)))) is
 
 -- ---- the first that isn't missing
 
@@ -109,20 +110,20 @@ none_from f a (suc n) before =
     let none : f a ≡ None = ap f (omega arith) ∙ before 0 (omega arith) in
     rw none (none_from f (a + 1) n (λ i h. ap f (omega arith) ∙ before (suc i) (omega arith)))
 
-pub first_is : (size : Size) (picture : Picture) (component x y n at v : ℕ) → at < 4 * n + 1
-    → ((i : ℕ) → i < at → neighbour size picture component x y n i ≡ None) → neighbour size picture component x y n at ≡ Some v
-    → first_seen (neighbours size picture component x y n) ≡ v
+pub first_is : (size : Size) (picture : Picture) (component : ℕ) (block : CodingBlock) (at v : ℕ) → at < 4 * side block + 1
+    → ((i : ℕ) → i < at → neighbour size picture component block i ≡ None) → neighbour size picture component block at ≡ Some v
+    → first_seen (neighbours size picture component block) ≡ v
 unfolding neighbours
-first_is size picture component x y n at v within before here =
-    let f : ℕ → Option ℕ = neighbour size picture component x y n in
-    first_from f 0 (4 * n + 1) at v within (λ i h. ap f (omega arith) ∙ before i h) (ap f (omega arith) ∙ here)
+first_is size picture component block at v within before here =
+    let f : ℕ → Option ℕ = neighbour size picture component block in
+    first_from f 0 (4 * side block + 1) at v within (λ i h. ap f (omega arith) ∙ before i h) (ap f (omega arith) ∙ here)
 
-pub none_is : (size : Size) (picture : Picture) (component x y n : ℕ) → ((i : ℕ) → i < 4 * n + 1 → neighbour size picture component x y n i ≡ None)
-    → first_seen (neighbours size picture component x y n) ≡ 128
+pub none_is : (size : Size) (picture : Picture) (component : ℕ) (block : CodingBlock) → ((i : ℕ) → i < 4 * side block + 1 → neighbour size picture component block i ≡ None)
+    → first_seen (neighbours size picture component block) ≡ 128
 unfolding neighbours
-none_is size picture component x y n before =
-    let f : ℕ → Option ℕ = neighbour size picture component x y n in
-    none_from f 0 (4 * n + 1) (λ i h. ap f (omega arith) ∙ before i h)
+none_is size picture component block before =
+    let f : ℕ → Option ℕ = neighbour size picture component block in
+    none_from f 0 (4 * side block + 1) (λ i h. ap f (omega arith) ∙ before i h)
 
 pub missing_at : (f : ℕ → Option ℕ) (n : ℕ) → AreMissing f 0 n → (i : ℕ) → i < n → f i ≡ None
 missing_at f n none i h = ap f (omega arith) ∙ none.each i h

@@ -1,6 +1,7 @@
 -- The neighbours of a block in the order of search, and how missing ones are filled.
 use Rattle.std.specs.Prelude.{◌≡◌, ◌<◌, ℕ, zero, suc, ◌+◌, ◌*◌, ◌-◌, Bool, true, false, List, slice_index, Option, Some, None}
-use Rattle.h265_model.specs.Plain.{Size, Picture}
+use Rattle.h265_model.specs.declared.block.CodingBlock.{CodingBlock}
+use Rattle.h265_model.specs.Plain.{Size, Picture, side}
 use Rattle.h265_model.specs.Predict.{seen}
 
 -- the reference samples of a block, from p[-1][2n - 1] up to p[-1][-1] and on to p[2n - 1][-1], where n is 2 ^ log2
@@ -8,9 +9,10 @@ pub record References : Type 0 where
   pub log2 : ℕ
   pub samples : List ℕ
 
--- neighbour number i of a block of side n
-abbrev pub neighbour : Size → Picture → ℕ → ℕ → ℕ → ℕ → ℕ → Option ℕ
-neighbour size picture component x y n i = seen size picture component x y (x + (i - 2 * n)) (y + (2 * n - i))
+-- neighbour number i of a block
+abbrev pub neighbour : Size → Picture → ℕ → CodingBlock → ℕ → Option ℕ
+neighbour size picture component block i =
+    seen size picture component block.x block.y (block.x + (i - 2 * side block)) (block.y + (2 * side block - i))
 
 -- those in the column on the left, and in the row above
 abbrev pub left_of : Size → Picture → ℕ → ℕ → ℕ → ℕ → Option ℕ

@@ -22,7 +22,7 @@ impl Model for Refs {
 }
 
 /// The side of a block.
-pub(crate) fn side(log2: u32) -> u32
+pub(crate) fn side_of(log2: u32) -> u32
     requires low { 3 ≤ log2 }
     requires high { log2 ≤ 5 }
     ensures value { result ≡ 2 ^ log2 }
@@ -64,7 +64,7 @@ impl Refs {
         ensures some { 33 ≤ length result.now }
         ensures most { length result.now ≤ 129 }
     {
-        let count = (4 * side(self.log2) + 1) as usize;
+        let count = (4 * side_of(self.log2) + 1) as usize;
         &self.line[..count]
     }
 

@@ -2,6 +2,7 @@
 ghost use Rattle.std.specs.Prelude.{◌≡◌, IfOk};
 
 use super::{filter, filtered, refs};
+use h265_model::CodingBlock;
 use px_plane::{Picture, Rect, Rgb, Size};
 use std::alloc::Global;
 use std::test::Fail;
@@ -54,7 +55,12 @@ fn blocks_of_8(rt: HostRuntime) -> Result<(), Fail> {
         (1, 7, 0, 336303298, 3421934999),
     ] {
         assert!(rt; component < 3 && x < 9 && y < 7);
-        let line = refs(&picture, component, 8 * x, 8 * y, 3);
+        let block = CodingBlock {
+            x: 8 * x,
+            y: 8 * y,
+            log2: 3,
+        };
+        let line = refs(&picture, component, block);
         assert_eq!(rt;
             (line.log2(), digest(line.samples())),
             (3, plain),
@@ -66,7 +72,12 @@ fn blocks_of_8(rt: HostRuntime) -> Result<(), Fail> {
             "{component} {x} {y}"
         );
     }
-    let line = refs(&picture, 0, 24, 24, 3);
+    let block = CodingBlock {
+        x: 24,
+        y: 24,
+        log2: 3,
+    };
+    let line = refs(&picture, 0, block);
     for (index, sample) in [
         (0, 213),
         (8, 213),
@@ -94,7 +105,12 @@ fn blocks_of_16_and_32(rt: HostRuntime) -> Result<(), Fail> {
         (2, 1, 2, 2687504044, 2822319810),
     ] {
         assert!(rt; component < 3 && x < 4 && y < 3);
-        let line = refs(&picture, component, 16 * x, 16 * y, 4);
+        let block = CodingBlock {
+            x: 16 * x,
+            y: 16 * y,
+            log2: 4,
+        };
+        let line = refs(&picture, component, block);
         assert_eq!(rt;
             (line.log2(), digest(line.samples())),
             (4, plain),
@@ -112,7 +128,12 @@ fn blocks_of_16_and_32(rt: HostRuntime) -> Result<(), Fail> {
         (2, 1, 2360368222, 1375887309),
     ] {
         assert!(rt; component < 3 && x < 2);
-        let line = refs(&picture, component, 32 * x, 0, 5);
+        let block = CodingBlock {
+            x: 32 * x,
+            y: 0,
+            log2: 5,
+        };
+        let line = refs(&picture, component, block);
         assert_eq!(rt;
             (line.log2(), digest(line.samples())),
             (5, plain),

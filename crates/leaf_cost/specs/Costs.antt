@@ -1,7 +1,8 @@
 -- What a block costs under a mode, and the cheapest of some modes.
 use Rattle.std.specs.Prelude.{◌≡◌, ◌<◌, ◌≤◌, ℕ, ◌+◌, ◌*◌, ◌^◌, List, length, take, slice_index, sum_by, Option, Some, None, if◌then◌else◌, ℤ}
+use Rattle.h265_model.specs.declared.block.CodingBlock.{CodingBlock}
 use Rattle.h265_model.specs.declared.leaf.Kind.TheVariants.{Intra}
-use Rattle.h265_model.specs.Plain.{Size, Picture}
+use Rattle.h265_model.specs.Plain.{Size, Picture, side}
 use Rattle.h265_model.specs.Predict.{square, neighbours, substituted, smoothed, is_filtered, predict}
 use Rattle.h265_model.specs.Tree.{differences}
 use Rattle.h265_model.specs.Choice.{level_cost}
@@ -16,13 +17,13 @@ pub record IsSided (b : PlaneBlock) (log2 : ℕ) : Type 0 where
   pub plain : b.plain.log2 ≡ log2
   pub smoothed : b.smoothed.log2 ≡ log2
 
--- it is a component of the block of side 2 ^ log2 at (x, y) of a picture
-pub record IsPlaneBlock (b : PlaneBlock) (size : Size) (picture : Picture) (component x y log2 : ℕ) : Type 0 where
+-- it is a component of a block of a picture
+pub record IsPlaneBlock (b : PlaneBlock) (size : Size) (picture : Picture) (component : ℕ) (block : CodingBlock) : Type 0 where
   pub component_is : b.component ≡ component
-  pub samples : take (2 ^ log2 * 2 ^ log2) b.samples ≡ square (2 ^ log2) (λ i j. picture component (x + i) (y + j))
-  pub plain : b.plain.samples ≡ substituted (neighbours size picture component x y (2 ^ log2))
-  pub smoothed_is : b.smoothed.samples ≡ smoothed (substituted (neighbours size picture component x y (2 ^ log2)))
-  pub sided : IsSided b log2
+  pub samples : take (side block * side block) b.samples ≡ square (side block) (λ i j. picture component (block.x + i) (block.y + j))
+  pub plain : b.plain.samples ≡ substituted (neighbours size picture component block)
+  pub smoothed_is : b.smoothed.samples ≡ smoothed (substituted (neighbours size picture component block))
+  pub sided : IsSided b block.log2
 
 -- its levels under a mode
 abbrev pub block_levels : PlaneBlock → ℕ → ℕ → List ℤ

@@ -1,14 +1,14 @@
 //! The cheapest of some intra modes.
 ghost use Rattle.std.specs.Prelude.{◌≡◌, ℕ, ◌+◌, ◌*◌, ◌%◌, ◌<◌, ◌≤◌, ◌^◌, length, Option};
 ghost use Rattle.std.specs.List.{All};
-ghost use Rattle.h265_model.specs.Plain.{coded, leaf_with};
+ghost use Rattle.h265_model.specs.Plain.{coded, leaf_with, side};
 ghost use Rattle.h265_model.specs.Choice.{intra_cost};
 ghost use Rattle.h265_model.specs.declared.leaf.Kind.TheVariants.{Intra};
 ghost use Rattle.px_plane.specs.Planes.{picture_of};
 ghost use Rattle.leaf_cost.specs.Costs.{AreSided, block_cost, IsBelow, IsBest};
 
 use crate::plane::{PlaneBlock, plane_block, plane_cost};
-use h265_model::Kind;
+use h265_model::{CodingBlock, Kind};
 use px_plane::Picture;
 
 /// What is coded of a block, and what that costs.
@@ -74,32 +74,24 @@ fn best_of(block: &LeafBlock, log2: u32, modes: &[u32], limit: u32) -> Option<Be
     best
 }
 
-/// The cheapest of these modes for the block of side 2^log2 at (x, y), the first of equal ones, where it costs less than
-/// `limit` by the choice rule.
-pub fn best_mode(
-    picture: &Picture,
-    x: u32,
-    y: u32,
-    log2: u32,
-    modes: &[u32],
-    limit: u32,
-) -> Option<Best>
+/// The cheapest of these modes for a block, the first of equal ones, where it costs less than `limit` by the choice rule.
+pub fn best_mode(picture: &Picture, block: CodingBlock, modes: &[u32], limit: u32) -> Option<Best>
     requires modes { All (λ mode. mode < 35) modes.now }
-    requires low { 3 ≤ log2 }
-    requires high { log2 ≤ 5 }
-    requires whole_x { x % 2 ^ log2 ≡ 0 }
-    requires whole_y { y % 2 ^ log2 ≡ 0 }
-    requires across { x + 2 ^ log2 ≤ coded picture.now.size.w }
-    requires down { y + 2 ^ log2 ≤ coded picture.now.size.h }
-    ensures { IsBest result limit (λ mode. intra_cost picture.now.size (picture_of picture.now) (leaf_with x y log2 (Intra mode))) modes.now }
+    requires low { 3 ≤ block.log2 }
+    requires high { block.log2 ≤ 5 }
+    requires whole_x { block.x % side block ≡ 0 }
+    requires whole_y { block.y % side block ≡ 0 }
+    requires across { block.x + side block ≤ coded picture.now.size.w }
+    requires down { block.y + side block ≤ coded picture.now.size.h }
+    ensures { IsBest result limit (λ mode. intra_cost picture.now.size (picture_of picture.now) (leaf_with block (Intra mode))) modes.now }
 {
     if limit <= 8 || modes.is_empty() {
         return None;
     }
-    let block = LeafBlock {
-        g: plane_block(picture, 0, x, y, log2),
-        b: plane_block(picture, 1, x, y, log2),
-        r: plane_block(picture, 2, x, y, log2),
+    let planes = LeafBlock {
+        g: plane_block(picture, 0, block),
+        b: plane_block(picture, 1, block),
+        r: plane_block(picture, 2, block),
     };
-    best_of(&block, log2, modes, limit)
+    best_of(&planes, block.log2, modes, limit)
 }

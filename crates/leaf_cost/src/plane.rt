@@ -1,6 +1,6 @@
 //! One component of a block, with its reference samples.
 ghost use Rattle.std.specs.Prelude.{◌≡◌, ◌+◌, ◌*◌, ◌%◌, ◌<◌, ◌≤◌, ◌^◌, length, take, sum_by};
-ghost use Rattle.h265_model.specs.Plain.{coded, leaf_with};
+ghost use Rattle.h265_model.specs.Plain.{coded, leaf_with, side};
 ghost use Rattle.h265_model.specs.Predict.{square};
 ghost use Rattle.h265_model.specs.Choice.{level_cost};
 ghost use Rattle.h265_model.specs.Tree.{levels_in};
@@ -9,6 +9,7 @@ ghost use Rattle.px_plane.specs.Planes.{picture_of};
 ghost use Rattle.leaf_cost.specs.Costs.{IsPlaneBlock, IsSided, block_levels};
 
 use crate::cost::run_cost;
+use h265_model::CodingBlock;
 use intra_predict::predict;
 use intra_refs::{Refs, filter, filtered, refs};
 use px_plane::Picture;
@@ -23,7 +24,7 @@ pub(crate) struct PlaneBlock {
 }
 
 /// The side of a block.
-pub(crate) fn side(log2: u32) -> u32
+pub(crate) fn side_of(log2: u32) -> u32
     requires low { 3 ≤ log2 }
     requires high { log2 ≤ 5 }
     ensures value { result ≡ 2 ^ log2 }
@@ -53,35 +54,29 @@ fn copy_block(picture: &Picture, component: u32, x: u32, y: u32, n: u32, out: &m
     }
 }
 
-/// One component of the block of side 2^log2 at (x, y).
-pub(crate) fn plane_block(
-    picture: &Picture,
-    component: u32,
-    x: u32,
-    y: u32,
-    log2: u32,
-) -> PlaneBlock
+/// One component of a block.
+pub(crate) fn plane_block(picture: &Picture, component: u32, block: CodingBlock) -> PlaneBlock
     requires component { component < 3 }
-    requires low { 3 ≤ log2 }
-    requires high { log2 ≤ 5 }
-    requires whole_x { x % 2 ^ log2 ≡ 0 }
-    requires whole_y { y % 2 ^ log2 ≡ 0 }
-    requires across { x + 2 ^ log2 ≤ coded picture.now.size.w }
-    requires down { y + 2 ^ log2 ≤ coded picture.now.size.h }
-    ensures { IsPlaneBlock result picture.now.size (picture_of picture.now) component x y log2 }
+    requires low { 3 ≤ block.log2 }
+    requires high { block.log2 ≤ 5 }
+    requires whole_x { block.x % side block ≡ 0 }
+    requires whole_y { block.y % side block ≡ 0 }
+    requires across { block.x + side block ≤ coded picture.now.size.w }
+    requires down { block.y + side block ≤ coded picture.now.size.h }
+    ensures { IsPlaneBlock result picture.now.size (picture_of picture.now) component block }
 {
-    let n = side(log2);
+    let n = side_of(block.log2);
     let _size = picture.size();
     let mut samples = [0u8; 1024];
     copy_block(
         picture,
         component,
-        x,
-        y,
+        block.x,
+        block.y,
         n,
         &mut samples[..(n * n) as usize],
     );
-    let plain = refs(picture, component, x, y, log2);
+    let plain = refs(picture, component, block);
     let smoothed = filter(&plain);
     PlaneBlock {
         component,
@@ -101,7 +96,7 @@ pub(crate) fn plane_cost(block: &PlaneBlock, mode: u32, log2: u32, scratch: &mut
     ensures value { result ≡ sum_by level_cost (block_levels block.now mode log2) }
     ensures bound { result ≤ 17408 }
 {
-    let n = side(log2);
+    let n = side_of(log2);
     let count = (n * n) as usize;
     let guess = &mut scratch[..count];
     if filtered(mode, log2) {

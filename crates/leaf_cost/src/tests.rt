@@ -2,7 +2,7 @@
 ghost use Rattle.std.specs.Prelude.{◌≡◌, IfOk};
 
 use super::{Best, best_mode, run_cost};
-use h265_model::Kind;
+use h265_model::{CodingBlock, Kind};
 use px_plane::{Picture, Rect, Rgb, Size};
 use std::alloc::Global;
 use std::test::Fail;
@@ -80,21 +80,22 @@ fn blocks_of_8(rt: HostRuntime) -> Result<(), Fail> {
         (4, 2, 680, 26),
     ] {
         assert!(rt; x < 9 && y < 7);
+        let block = CodingBlock {
+            x: 8 * x,
+            y: 8 * y,
+            log2: 3,
+        };
         assert_eq!(rt;
-            best_mode(&picture, 8 * x, 8 * y, 3, &FEW, 100000),
+            best_mode(&picture, block, &FEW, 100000),
             intra(cost, mode),
             "{x} {y}"
         );
         assert_eq!(rt;
-            best_mode(&picture, 8 * x, 8 * y, 3, &FEW, cost + 1),
+            best_mode(&picture, block, &FEW, cost + 1),
             intra(cost, mode),
             "{x} {y}"
         );
-        assert_eq!(rt;
-            best_mode(&picture, 8 * x, 8 * y, 3, &FEW, cost),
-            None,
-            "{x} {y}"
-        );
+        assert_eq!(rt; best_mode(&picture, block, &FEW, cost), None, "{x} {y}");
     }
     Ok(())
 }
@@ -104,20 +105,32 @@ fn blocks_of_16_and_32(rt: HostRuntime) -> Result<(), Fail> {
     let picture = pattern(rt.alloc())?;
     for (x, y, cost, mode) in [(0, 0, 11812, 1), (1, 0, 4680, 10), (2, 1, 8362, 26)] {
         assert!(rt; x < 4 && y < 3);
+        let block = CodingBlock {
+            x: 16 * x,
+            y: 16 * y,
+            log2: 4,
+        };
         assert_eq!(rt;
-            best_mode(&picture, 16 * x, 16 * y, 4, &FEW, 100000),
+            best_mode(&picture, block, &FEW, 100000),
             intra(cost, mode),
             "{x} {y}"
         );
     }
-    assert_eq!(rt;
-        best_mode(&picture, 32, 16, 4, &MANY, 100000),
-        intra(8273, 11)
-    );
+    let block = CodingBlock {
+        x: 32,
+        y: 16,
+        log2: 4,
+    };
+    assert_eq!(rt; best_mode(&picture, block, &MANY, 100000), intra(8273, 11));
     for (x, cost, mode) in [(0, 42834, 1), (1, 36815, 10)] {
         assert!(rt; x < 2);
+        let block = CodingBlock {
+            x: 32 * x,
+            y: 0,
+            log2: 5,
+        };
         assert_eq!(rt;
-            best_mode(&picture, 32 * x, 0, 5, &FEW, 100000),
+            best_mode(&picture, block, &FEW, 100000),
             intra(cost, mode),
             "{x}"
         );

@@ -4,7 +4,9 @@ use Rattle.std.specs.Prelude.{get_or, nat_lt, ◌==◌, if◌then◌else◌}
 use Rattle.std.proofs.lemmas.List.{get_or_default}
 use Rattle.std.proofs.lemmas.Nat.{mul-le}
 use mir.Val.{bool_byte}
+use Rattle.h265_model.specs.declared.block.CodingBlock.{CodingBlock}
 use Rattle.h265_model.specs.declared.leaf.Leaf.{Leaf}
+use Rattle.h265_model.specs.SyntaxElements.{cu_skip_flag, split_cu_flag}
 use Rattle.h265_model.specs.Bits.{digit}
 use Rattle.h265_model.specs.Modes.{candidates}
 use Rattle.h265_model.specs.Tree.{passes, candidate, candidates_at, skip_context, split_context, is_skipped, left_of, above}
@@ -12,7 +14,7 @@ use Rattle.h265_model.specs.Plain.{coded}
 use Rattle.pu_code.specs.declared.cell.Cell.{Cell}
 use Rattle.pu_code.specs.Cells.{Cells, AreCells, blocks, kept_of, is_smaller, is_copy, mode_kept}
 
-pub smaller_is : (log2 : ℕ) (leaf : Option Leaf) → is_smaller log2 (kept_of leaf) ≡ passes (λ l. nat_lt l.log2 log2) leaf
+pub smaller_is : (log2 : ℕ) (leaf : Option Leaf) → is_smaller log2 (kept_of leaf) ≡ passes (λ l. nat_lt l.block.log2 log2) leaf
 smaller_is log2 None = refl
 smaller_is log2 (Some leaf) = refl
 
@@ -31,14 +33,14 @@ byte_is true = refl
 byte_is false = refl
 
 pub skip_is : (leaves : List Leaf) (x y : ℕ) (p q : Bool) (a b : ℕ) → p ≡ passes (λ l. is_skipped l.kind) (left_of leaves x y) → q ≡ passes (λ l. is_skipped l.kind) (above leaves x y)
-    → a ≡ digit p → b ≡ digit q → 4 + a + b ≡ skip_context leaves x y
+    → a ≡ digit p → b ≡ digit q → cu_skip_flag + a + b ≡ skip_context leaves x y
 unfolding skip_context
 skip_is leaves x y p q a b e f g h = rw (g, h, e, f) (omega arith)
 
-pub split_is : (leaves : List Leaf) (x y log2 : ℕ) (p q : Bool) (a b : ℕ) → p ≡ passes (λ l. nat_lt l.log2 log2) (left_of leaves x y) → q ≡ passes (λ l. nat_lt l.log2 log2) (above leaves x y)
-    → a ≡ digit p → b ≡ digit q → 1 + a + b ≡ split_context leaves x y log2
+pub split_is : (leaves : List Leaf) (block : CodingBlock) (p q : Bool) (a b : ℕ) → p ≡ passes (λ l. nat_lt l.block.log2 block.log2) (left_of leaves block.x block.y) → q ≡ passes (λ l. nat_lt l.block.log2 block.log2) (above leaves block.x block.y)
+    → a ≡ digit p → b ≡ digit q → split_cu_flag + a + b ≡ split_context leaves block
 unfolding split_context
-split_is leaves x y log2 p q a b e f g h = rw (g, h, e, f) (omega arith)
+split_is leaves block p q a b e f g h = rw (g, h, e, f) (omega arith)
 
 -- ---- candidates
 

@@ -44,10 +44,10 @@ from_is x log2 p low high = each_side (λ s b. x % s ≡ 0 → nat_le x p ≡ na
 to_is : (x log2 p : ℕ) → 3 ≤ log2 → log2 ≤ 5 → x % 2 ^ log2 ≡ 0 → nat_lt p (x + 2 ^ log2) ≡ nat_lt (p / 8) (x / 8 + 2 ^ (log2 - 3))
 to_is x log2 p low high = each_side (λ s b. x % s ≡ 0 → nat_lt p (x + s) ≡ nat_lt (p / 8) (x / 8 + b)) log2 low high (λ e. grind (arith, nat_tests)) (λ e. grind (arith, nat_tests)) (λ e. grind (arith, nat_tests))
 
-covers_is : (x y : ℕ) (leaf : Leaf) → 3 ≤ leaf.log2 → leaf.log2 ≤ 5 → leaf.x % 2 ^ leaf.log2 ≡ 0 → leaf.y % 2 ^ leaf.log2 ≡ 0
-    → covers x y leaf ≡ is_within (leaf.x / 8) (leaf.x / 8 + 2 ^ (leaf.log2 - 3)) (leaf.y / 8) (leaf.y / 8 + 2 ^ (leaf.log2 - 3)) (x / 8) (y / 8)
+covers_is : (x y : ℕ) (leaf : Leaf) → 3 ≤ leaf.block.log2 → leaf.block.log2 ≤ 5 → leaf.block.x % 2 ^ leaf.block.log2 ≡ 0 → leaf.block.y % 2 ^ leaf.block.log2 ≡ 0
+    → covers x y leaf ≡ is_within (leaf.block.x / 8) (leaf.block.x / 8 + 2 ^ (leaf.block.log2 - 3)) (leaf.block.y / 8) (leaf.block.y / 8 + 2 ^ (leaf.block.log2 - 3)) (x / 8) (y / 8)
 covers_is x y leaf low high column row =
-    rw (from_is leaf.x leaf.log2 x low high column, to_is leaf.x leaf.log2 x low high column, from_is leaf.y leaf.log2 y low high row, to_is leaf.y leaf.log2 y low high row) refl
+    rw (from_is leaf.block.x leaf.block.log2 x low high column, to_is leaf.block.x leaf.block.log2 x low high column, from_is leaf.block.y leaf.block.log2 y low high row, to_is leaf.block.y leaf.block.log2 y low high row) refl
 
 -- one leaf more at the end
 appended : (w : Bool) (was : Option Leaf) (leaf : Leaf) → cond w (option_or (kept_of was) (Some (cell_of leaf))) (kept_of was) ≡ kept_of (option_or was (cond w (Some leaf) None))
@@ -60,18 +60,18 @@ at_end : (leaves : List Leaf) (leaf : Leaf) (x y : ℕ) → kept_of (leaf_at (le
 at_end leaves leaf x y = ap kept_of (find-append (covers x y) leaves (leaf ∷ []))
 
 -- with a unit's square filled, the cells stand for one leaf more
-pub set_is : (old new : Cells) (leaf : Leaf) (side : ℕ) (cell : Cell) → IsUnit old.size leaf → new.size ≡ old.size → side ≡ 2 ^ (leaf.log2 - 3) → cell ≡ cell_of leaf
-    → IsFilled old.cells new.cells (blocks old.size.w) (leaf.x / 8) (leaf.x / 8 + side) (leaf.y / 8) (leaf.y / 8 + side) cell
+pub set_is : (old new : Cells) (leaf : Leaf) (side : ℕ) (cell : Cell) → IsUnit old.size leaf → new.size ≡ old.size → side ≡ 2 ^ (leaf.block.log2 - 3) → cell ≡ cell_of leaf
+    → IsFilled old.cells new.cells (blocks old.size.w) (leaf.block.x / 8) (leaf.block.x / 8 + side) (leaf.block.y / 8) (leaf.block.y / 8 + side) cell
     → (leaves : List Leaf) → StandsFor old leaves → StandsFor new (leaves ++ leaf ∷ [])
 set_is old new leaf side cell unit size long kept filled leaves stands = record {
   each = λ x y across down.
       let wide : x < coded old.size.w = subst (λ s. x < coded s.w) size across in
       let tall : y < coded old.size.h = subst (λ s. y < coded s.h) size down in
-      let w : Bool = is_within (leaf.x / 8) (leaf.x / 8 + 2 ^ (leaf.log2 - 3)) (leaf.y / 8) (leaf.y / 8 + 2 ^ (leaf.log2 - 3)) (x / 8) (y / 8) in
+      let w : Bool = is_within (leaf.block.x / 8) (leaf.block.x / 8 + 2 ^ (leaf.block.log2 - 3)) (leaf.block.y / 8) (leaf.block.y / 8 + 2 ^ (leaf.block.log2 - 3)) (x / 8) (y / 8) in
       let here : cell_at new x y ≡ get_or new.cells (y / 8 * blocks old.size.w + x / 8) None = ap (λ s. get_or new.cells (y / 8 * blocks s.w + x / 8) None) size in
       let is : get_or new.cells (y / 8 * blocks old.size.w + x / 8) None ≡ cond w (option_or (cell_at old x y) (Some (cell_of leaf))) (cell_at old x y) =
       subst (λ k. get_or new.cells (y / 8 * blocks old.size.w + x / 8) None ≡ cond w (option_or (cell_at old x y) (Some k)) (cell_at old x y)) kept
-      (subst (λ s. get_or new.cells (y / 8 * blocks old.size.w + x / 8) None ≡ cond (is_within (leaf.x / 8) (leaf.x / 8 + s) (leaf.y / 8) (leaf.y / 8 + s) (x / 8) (y / 8)) (option_or (cell_at old x y) (Some cell)) (cell_at old x y)) long
+      (subst (λ s. get_or new.cells (y / 8 * blocks old.size.w + x / 8) None ≡ cond (is_within (leaf.block.x / 8) (leaf.block.x / 8 + s) (leaf.block.y / 8) (leaf.block.y / 8 + s) (x / 8) (y / 8)) (option_or (cell_at old x y) (Some cell)) (cell_at old x y)) long
       (filled (x / 8) (y / 8) (omega arith))) in
       here ∙ (is ∙ (ap (λ c. cond w (option_or c (Some (cell_of leaf))) c) (stands.each x y wide tall)
       ∙ (appended w (leaf_at leaves x y) leaf ∙ (ap (λ b. kept_of (option_or (leaf_at leaves x y) (cond b (Some leaf) None))) (sym (covers_is x y leaf unit.low unit.high unit.column unit.row)) ∙ sym (at_end leaves leaf x y)))));

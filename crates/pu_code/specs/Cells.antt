@@ -29,7 +29,7 @@ pub record AreCells (g : Cells) : Type 0 where
 
 -- what is kept of a leaf, and of the leaf at a place
 abbrev pub cell_of : Leaf → Cell
-cell_of leaf = record { log2 = leaf.log2; skipped = is_skipped leaf.kind; mode = mode_of leaf.kind }
+cell_of leaf = record { log2 = leaf.block.log2; skipped = is_skipped leaf.kind; mode = mode_of leaf.kind }
 
 abbrev pub kept_of : Option Leaf → Option Cell
 kept_of None = None
@@ -45,12 +45,12 @@ pub record StandsFor (g : Cells) (leaves : List Leaf) : Type 0 where
 
 -- a coding unit of this picture
 pub record IsUnit (size : Size) (leaf : Leaf) : Type 0 where
-  pub low : 3 ≤ leaf.log2
-  pub high : leaf.log2 ≤ 5
-  pub column : leaf.x % 2 ^ leaf.log2 ≡ 0
-  pub row : leaf.y % 2 ^ leaf.log2 ≡ 0
-  pub across : leaf.x + 2 ^ leaf.log2 ≤ coded size.w
-  pub down : leaf.y + 2 ^ leaf.log2 ≤ coded size.h
+  pub low : 3 ≤ leaf.block.log2
+  pub high : leaf.block.log2 ≤ 5
+  pub column : leaf.block.x % 2 ^ leaf.block.log2 ≡ 0
+  pub row : leaf.block.y % 2 ^ leaf.block.log2 ≡ 0
+  pub across : leaf.block.x + 2 ^ leaf.block.log2 ≤ coded size.w
+  pub down : leaf.block.y + 2 ^ leaf.block.log2 ≤ coded size.h
   pub mode : IsMode leaf.kind
 
 -- the column x of blocks and the row y of blocks cross in the square

@@ -21,7 +21,7 @@ pub(crate) const DC: u32 = 1;
 impl Cell {
     /// What is kept of a leaf.
     pub(crate) fn of(leaf: Leaf) -> Cell
-        requires side { leaf.log2 ≤ 5 }
+        requires side { leaf.block.log2 ≤ 5 }
         requires mode { IsMode leaf.kind }
         ensures { result ≡ cell_of leaf }
     {
@@ -30,7 +30,7 @@ impl Cell {
             Kind::Intra(mode) => mode,
         };
         Cell {
-            log2: leaf.log2 as u8,
+            log2: leaf.block.log2 as u8,
             skipped: leaf.kind == Kind::Skip,
             mode: mode as u8,
         }

@@ -2,6 +2,7 @@
 ghost use Rattle.std.specs.Prelude.{◌≡◌, ℕ, ◌+◌, ◌*◌, ◌-◌, ◌%◌, ◌<◌, ◌≤◌, ◌==◌, if◌then◌else◌, List, [], ◌∷◌, ◌++◌, IfOk, IsTrue};
 ghost use Rattle.h265_model.specs.declared.leaf.Leaf.{Leaf as TheLeaf};
 ghost use Rattle.h265_model.specs.Plain.{coded};
+ghost use Rattle.h265_model.specs.SyntaxElements.{cu_skip_flag, split_cu_flag};
 ghost use Rattle.h265_model.specs.Tree as tree;
 ghost use Rattle.h265_model.specs.Modes.{AreThree};
 ghost use Rattle.pu_code.specs.Cells.{blocks, cell_at, kept_of, mode_kept, StandsFor, IsUnit};
@@ -10,6 +11,8 @@ use crate::cell::{Cell, DC, candidate, fill_square, is_copy, is_smaller};
 use crate::mode::candidates_of;
 use arrayvec::ArrayVec;
 use bin_items::{Leaf, NoMemory};
+use h265_model::CodingBlock;
+use h265_model::syntax_elements::{CU_SKIP_FLAG, SPLIT_CU_FLAG};
 use px_plane::Size;
 use std::alloc::Global;
 use std::marker::Model;
@@ -65,9 +68,9 @@ impl Grid {
         ensures set { (leaves : List TheLeaf) → StandsFor self.old leaves → StandsFor self.new (leaves ++ leaf ∷ []) }
     {
         let columns = blocks_of(self.size.w());
-        let left = (leaf.x / 8) as usize;
-        let top = (leaf.y / 8) as usize;
-        let side = 1 << (leaf.log2 - 3);
+        let left = (leaf.block.x / 8) as usize;
+        let top = (leaf.block.y / 8) as usize;
+        let side = 1 << (leaf.block.log2 - 3);
         fill_square(&mut self.cells, columns, left, top, side, Cell::of(leaf));
     }
 
@@ -141,24 +144,23 @@ impl Grid {
         requires across { x < coded self.now.size.w }
         requires down { y < coded self.now.size.h }
         ensures value { (leaves : List TheLeaf) → StandsFor self.now leaves → result ≡ tree.skip_context leaves x y }
-        ensures low { 4 ≤ result }
-        ensures high { result ≤ 6 }
+        ensures low { cu_skip_flag ≤ result }
+        ensures high { result ≤ cu_skip_flag + 2 }
     {
-        4 + u32::from(is_copy(self.left_of(x, y))) + u32::from(is_copy(self.above(x, y)))
+        CU_SKIP_FLAG + u32::from(is_copy(self.left_of(x, y))) + u32::from(is_copy(self.above(x, y)))
     }
 
-    /// The context of split_cu_flag of a block at a place of the coded picture, by the units on the left and above that are deeper in their tree than
-    /// the block, which has a side of 2 ^ (5 - `depth`) (9.3.4.2.2).
-    pub fn split_context(&self, x: u32, y: u32, depth: u32) -> u32
-        requires across { x < coded self.now.size.w }
-        requires down { y < coded self.now.size.h }
-        ensures value { (leaves : List TheLeaf) → StandsFor self.now leaves → result ≡ tree.split_context leaves x y (5 - depth) }
-        ensures low { 1 ≤ result }
-        ensures high { result ≤ 3 }
+    /// The context of split_cu_flag of a block that begins in the coded picture, by the units on the left and above that are deeper in their tree than
+    /// the block (9.3.4.2.2).
+    pub fn split_context(&self, block: CodingBlock) -> u32
+        requires across { block.x < coded self.now.size.w }
+        requires down { block.y < coded self.now.size.h }
+        ensures value { (leaves : List TheLeaf) → StandsFor self.now leaves → result ≡ tree.split_context leaves block }
+        ensures low { split_cu_flag ≤ result }
+        ensures high { result ≤ split_cu_flag + 2 }
     {
-        let log2 = 5u32.saturating_sub(depth);
-        let left = is_smaller(self.left_of(x, y), log2);
-        let above = is_smaller(self.above(x, y), log2);
-        1 + u32::from(left) + u32::from(above)
+        let left = is_smaller(self.left_of(block.x, block.y), block.log2);
+        let above = is_smaller(self.above(block.x, block.y), block.log2);
+        SPLIT_CU_FLAG + u32::from(left) + u32::from(above)
     }
 }

@@ -10,6 +10,7 @@ ghost use Rattle.h265_model.specs.Modes.{AreThree};
 
 use arrayvec::ArrayVec;
 use bin_items::{Bin, BinSink, NoMemory, Place, write_fl, write_tr};
+use h265_model::syntax_elements::PREV_INTRA_LUMA_PRED_FLAG;
 
 // The first of planar, DC and vertical that is neither of these.
 fn other_than(a: u32, b: u32) -> u32
@@ -56,7 +57,7 @@ fn write_index<S: BinSink>(sink: &mut S, index: u32) -> Result<(), NoMemory>
 {
     sink.bin(Bin {
         value: true,
-        place: Place::Context(9),
+        place: Place::Context(PREV_INTRA_LUMA_PRED_FLAG),
     })?;
     write_tr(sink, index, 0, 2)
 }
@@ -70,7 +71,7 @@ fn write_remainder<S: BinSink>(sink: &mut S, remainder: u32) -> Result<(), NoMem
 {
     sink.bin(Bin {
         value: false,
-        place: Place::Context(9),
+        place: Place::Context(PREV_INTRA_LUMA_PRED_FLAG),
     })?;
     write_fl(sink, remainder, 5, 0)
 }

@@ -7,11 +7,11 @@ use Rattle.intra_refs.proofs.line.fill_left_side.Goals as goal
 pub loop-part-preserved : goal.loop-part-preserved
 loop-part-preserved c =
     let p = picture_of c.args.picture.now in
-    let row : ℕ = c.args.y + (2 * c.args.n - 8 * (c.loop-part.part + 1)) in
-    let f : ℕ → Option ℕ = neighbour c.args.picture.now.size p c.args.component c.args.x c.args.y c.args.n in
-    let g : ℕ → Option ℕ = λ j. left_of c.args.picture.now.size p c.args.component c.args.x c.args.y (row + 8 - j) in
+    let row : ℕ = c.args.block.y + (2 * c.side_of-n.result - 8 * (c.loop-part.part + 1)) in
+    let f : ℕ → Option ℕ = neighbour c.args.picture.now.size p c.args.component c.args.block in
+    let g : ℕ → Option ℕ = λ j. left_of c.args.picture.now.size p c.args.component c.args.block.x c.args.block.y (row + 8 - j) in
     let same : (j : ℕ) → j < 8 → g j ≡ f (8 * c.loop-part.part + j) =
-    λ j h. sym (left_place c.args.picture.now.size p c.args.component c.args.x c.args.y c.args.n c.loop-part.part row j c.requires.whole (omega arith) refl h) in
+    λ j h. sym (left_place c.args.picture.now.size p c.args.component c.args.block c.side_of-n.result c.loop-part.part row j c.side_of-n.ensures.value c.side_of-n.ensures.whole (omega arith) refl h) in
     let next : 8 * (c.loop-part.part + 1) ≡ 8 * c.loop-part.part + 8 = omega arith in
     record {
       filled = part_filled c.loop-part.line c.fill_left-before.new.out f g c.args.first c.loop-part.before (8 * c.loop-part.part) _ (8 * (c.loop-part.part + 1))

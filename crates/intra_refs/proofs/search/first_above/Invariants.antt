@@ -1,7 +1,8 @@
 use Rattle.std.proofs.Common.{◌+◌, ◌*◌}
+use Rattle.h265_model.specs.Plain.{side}
 use Rattle.px_plane.specs.Planes.{picture_of}
 use Rattle.intra_refs.specs.Neighbours.{neighbour, AreMissing}
 use Rattle.intra_refs.proofs.search.first_above.Given as goal
 
 abbrev pub invariant-loop-part : goal.invariant-loop-part
-invariant-loop-part l = AreMissing (neighbour l.picture.size (picture_of l.picture) l.component l.x l.y l.n) (2 * l.n + 1) (8 * l.part)
+invariant-loop-part l = AreMissing (neighbour l.picture.size (picture_of l.picture) l.component l.block) (2 * side l.block + 1) (8 * l.part)

@@ -4,4 +4,4 @@ use Rattle.intra_refs.specs.Neighbours.{neighbour, AreMissing}
 use Rattle.intra_refs.proofs.search.first_left.Given as goal
 
 abbrev pub invariant-loop-part : goal.invariant-loop-part
-invariant-loop-part l = AreMissing (neighbour l.picture.size (picture_of l.picture) l.component l.x l.y l.n) 0 (8 * l.part)
+invariant-loop-part l = AreMissing (neighbour l.picture.size (picture_of l.picture) l.component l.block) 0 (8 * l.part)

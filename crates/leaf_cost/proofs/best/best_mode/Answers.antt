@@ -14,8 +14,8 @@ pub returns-then-limit-le8 : goal.returns-then-limit-le8
 returns-then-limit-le8 c = elim c.then-limit-le8.branch [
   | then-limit-le8-via-then-limit-le8 w ↦ record {
     each = λ i h.
-        let least : 8 ≤ intra_cost c.args.picture.now.size (picture_of c.args.picture.now) (leaf_with c.args.x c.args.y c.args.log2 (Intra (get_or c.args.modes.now i 0))) =
-        cost_least c.args.picture.now.size (picture_of c.args.picture.now) c.args.x c.args.y c.args.log2 (get_or c.args.modes.now i 0) in
+        let least : 8 ≤ intra_cost c.args.picture.now.size (picture_of c.args.picture.now) (leaf_with c.args.block (Intra (get_or c.args.modes.now i 0))) =
+        cost_least c.args.picture.now.size (picture_of c.args.picture.now) c.args.block (get_or c.args.modes.now i 0) in
         let low : c.args.limit ≤ 8 = w.if-limit-le8.true in
         omega arith;
   }
@@ -24,8 +24,8 @@ returns-then-limit-le8 c = elim c.then-limit-le8.branch [
 
 pub returns : goal.returns
 returns c =
-    best_same c.best_of.result c.args.limit (λ mode. block_cost (record { g = c.plane_block.result; b = c.plane_block-2.result; r = c.plane_block-3.result }) mode c.args.log2)
-    (λ mode. intra_cost c.args.picture.now.size (picture_of c.args.picture.now) (leaf_with c.args.x c.args.y c.args.log2 (Intra mode))) c.args.modes.now
-    (λ mode. cost_is (record { g = c.plane_block.result; b = c.plane_block-2.result; r = c.plane_block-3.result }) c.args.picture.now.size (picture_of c.args.picture.now) c.args.x c.args.y c.args.log2 mode
+    best_same c.best_of.result c.args.limit (λ mode. block_cost (record { g = c.plane_block.result; b = c.plane_block-2.result; r = c.plane_block-3.result }) mode c.args.block.log2)
+    (λ mode. intra_cost c.args.picture.now.size (picture_of c.args.picture.now) (leaf_with c.args.block (Intra mode))) c.args.modes.now
+    (λ mode. cost_is (record { g = c.plane_block.result; b = c.plane_block-2.result; r = c.plane_block-3.result }) c.args.picture.now.size (picture_of c.args.picture.now) c.args.block mode
     c.plane_block.ensures c.plane_block-2.ensures c.plane_block-3.ensures)
     c.best_of.ensures
