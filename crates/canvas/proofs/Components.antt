@@ -1,7 +1,7 @@
 -- The three components of a unit, drawn one after another.
 use Rattle.std.proofs.Common.{◌≡◌, refl, sym, ◌∙◌, ap, subst, ℕ, zero, suc, ◌+◌, ◌*◌, ◌-◌, ◌^◌, ◌<◌, List, [], ◌∷◌, Bool, true, cond, get_or, take, drop, arith}
 use Rattle.std.specs.Prelude.{Option, ℤ}
-use Rattle.h265_model.specs.Plain.{Size, Picture, coded}
+use Rattle.h265_model.specs.Plain.{block_at, Size, Picture, coded}
 use Rattle.h265_model.specs.Predict.{is_inside, is_available, prediction}
 use Rattle.h265_model.specs.Raster.{blank}
 use Rattle.h265_model.specs.Rebuild.{sums, block_of, with_units}
@@ -101,7 +101,7 @@ available_inside : (size : Size) (x y px py : ℕ) → is_available size x y px 
 available_inside size x y px py h = (and_parts _ _ h).0
 
 block_is : (size : Size) (a b : Picture) (mode component x y log2 : ℕ) (l : Option (List ℤ)) → ((qx qy : ℕ) → is_available size x y qx qy ≡ true → a component qx qy ≡ b component qx qy)
-    → drawn_block size a mode component x y log2 l ≡ sums (prediction size b mode component x y log2) (levels_or log2 l)
+    → drawn_block size a mode component x y log2 l ≡ sums (prediction size b mode component (block_at x y log2)) (levels_or log2 l)
 block_is size a b mode component x y log2 l h = ap (λ (p : List ℕ). sums p (levels_or log2 l)) (prediction_same size a b mode component x y log2 h)
 
 pub levels_block : (old : Pictures) (units : List ReadUnit) (d1 d2 d3 : Planes) (mode x y log2 : ℕ) (l0 l1 l2 : Option (List ℤ)) (b0 b1 b2 : List ℕ)
@@ -128,7 +128,7 @@ levels_block old units d1 d2 d3 mode x y log2 l0 l1 l2 b0 b1 b2 sizes draws has 
     tall : (qx qy : ℕ) → is_available size x y qx qy ≡ true → qy < coded old.drawn.size.h
     tall qx qy h = subst (λ (s : Size). qy < coded s.h) (sym sizes) (inside_parts size qx qy (available_inside size x y qx qy h)).1
 
-    go : (c : ℕ) → c < 3 → get_or (b0 ∷ b1 ∷ b2 ∷ []) c [] ≡ sums (prediction size now mode c x y log2) (get_or (levels_or log2 l0 ∷ levels_or log2 l1 ∷ levels_or log2 l2 ∷ []) c [])
+    go : (c : ℕ) → c < 3 → get_or (b0 ∷ b1 ∷ b2 ∷ []) c [] ≡ sums (prediction size now mode c (block_at x y log2)) (get_or (levels_or log2 l0 ∷ levels_or log2 l1 ∷ levels_or log2 l2 ∷ []) c [])
     go zero h = is.first ∙ block_is size (picture_of old.drawn) now mode 0 x y log2 l0 (λ qx qy k. near 0 qx qy (omega arith) k)
     go (suc zero) h =
         is.second ∙ block_is size (picture_of d1) now mode 1 x y log2 l1

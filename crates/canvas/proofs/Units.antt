@@ -6,7 +6,7 @@ use Rattle.std.proofs.lemmas.Bool.{and_parts, ltb-true, leb-true, or_cases}
 use Rattle.std.proofs.lemmas.List.Folds.{list_any-append}
 use Rattle.h265_model.specs.declared.leaf.Leaf.{Leaf}
 use Rattle.h265_model.specs.declared.moves.Vector.{Vector}
-use Rattle.h265_model.specs.Plain.{Size, Picture, coded, covers}
+use Rattle.h265_model.specs.Plain.{block_at, Size, Picture, coded, covers}
 use Rattle.h265_model.specs.Predict.{is_inside}
 use Rattle.h265_model.specs.Settings.{is_size}
 use Rattle.h265_model.specs.Raster.{blank, planes}
@@ -84,11 +84,11 @@ side_most size h =
     coded_most : (n : ℕ) → n ≤ 4096 → coded n ≤ 4096
     coded_most n h = omega arith
 
-pub source_x : (size : Size) (x y log2 : ℕ) (v : Vector) → IsTrue (is_size size) → IsTrue (has_source size x y log2 v) → CanMove x v.x × (moved x v.x + 2 ^ log2 ≤ coded size.w)
+pub source_x : (size : Size) (x y log2 : ℕ) (v : Vector) → IsTrue (is_size size) → IsTrue (has_source size (block_at x y log2) v) → CanMove x v.x × (moved x v.x + 2 ^ log2 ≤ coded size.w)
 unfolding has_source
 source_x size x y log2 v sized h = can_move (coded size.w) (2 ^ log2) x v.x (side_most size sized).0 (and_parts _ _ h).0
 
-pub source_y : (size : Size) (x y log2 : ℕ) (v : Vector) → IsTrue (is_size size) → IsTrue (has_source size x y log2 v) → CanMove y v.y × (moved y v.y + 2 ^ log2 ≤ coded size.h)
+pub source_y : (size : Size) (x y log2 : ℕ) (v : Vector) → IsTrue (is_size size) → IsTrue (has_source size (block_at x y log2) v) → CanMove y v.y × (moved y v.y + 2 ^ log2 ≤ coded size.h)
 unfolding has_source
 source_y size x y log2 v sized h = can_move (coded size.h) (2 ^ log2) y v.y (side_most size sized).1 (and_parts _ _ h).1
 
@@ -154,7 +154,7 @@ pub copied_as : (old new : Pictures) (from_x from_y x y log2 n : ℕ) (v : Vecto
 copied_as old new from_x from_y x y log2 n v ex ey en stores same = record { last = same; samples = rw (← ex, ← ey, ← en) stores }
 
 pub copy_drawn : (old new : Pictures) (units : List ReadUnit) (u : ReadUnit) (v : Vector) → IsTrue (is_size old.last.size) → old.drawn.size ≡ old.last.size → new.drawn.size ≡ old.last.size
-    → IsTrue (has_source old.last.size u.x u.y u.log2 v) → CopiesBy u.content v → IsCopied old new u.x u.y u.log2 v → IsUnitDrawn old new units u
+    → IsTrue (has_source old.last.size u.block v) → CopiesBy u.content v → IsCopied old new u.x u.y u.log2 v → IsUnitDrawn old new units u
 copy_drawn old new units u v sized size_old size_new source by is = record {
   last = is.last;
   block = λ before stores c x y small inside at.

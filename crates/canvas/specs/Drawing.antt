@@ -2,7 +2,7 @@
 use Rattle.std.specs.Prelude.{◌≡◌, ◌<◌, ◌≤◌, ℕ, suc, ◌+◌, ◌^◌, true, List, Option, None, ℤ, pos, negsuc}
 use Rattle.std.specs.List.{AllByRecursion}
 use Rattle.h265_model.specs.declared.moves.Vector.{Vector}
-use Rattle.h265_model.specs.Plain.{Size, Picture}
+use Rattle.h265_model.specs.Plain.{block_at, Size, Picture}
 use Rattle.h265_model.specs.Motion.{moved}
 use Rattle.h265_model.specs.Predict.{is_inside, prediction}
 use Rattle.h265_model.specs.Raster.{blank}
@@ -44,7 +44,7 @@ CanMove x (negsuc n) = suc n ≤ x
 
 -- a component of a block as it is drawn: prediction from a picture, and levels
 abbrev pub drawn_block : Size → Picture → ℕ → ℕ → ℕ → ℕ → ℕ → Option (List ℤ) → List ℕ
-drawn_block size now mode component x y log2 levels = sums (prediction size now mode component x y log2) (levels_or log2 levels)
+drawn_block size now mode component x y log2 levels = sums (prediction size now mode component (block_at x y log2)) (levels_or log2 levels)
 
 -- ---- one unit
 

@@ -1,6 +1,6 @@
 //! Two pictures, of which one is drawn.
 ghost use Rattle.std.specs.Prelude.{◌≡◌, ◌<◌, ◌≤◌, ◌+◌, ◌*◌, ◌%◌, ◌^◌, ◌++◌, ◌∷◌, [], List, length, IsTrue, IfOk};
-ghost use Rattle.h265_model.specs.Plain.{Picture as ThePicture, coded};
+ghost use Rattle.h265_model.specs.Plain.{block_at, Picture as ThePicture, coded};
 ghost use Rattle.h265_model.specs.Tree.{thirds, ReadUnit, Copied, Moved, Samples, Levels};
 ghost use Rattle.h265_model.specs.Motion.{has_source};
 ghost use Rattle.h265_model.specs.Rebuild.{rebuild};
@@ -99,7 +99,7 @@ impl Canvas {
         requires high { log2 ≤ 5 }
         requires across { x + 2 ^ log2 ≤ coded self.old.last.size.w }
         requires down { y + 2 ^ log2 ≤ coded self.old.last.size.h }
-        requires source { IsTrue (has_source self.old.last.size x y log2 vector) }
+        requires source { IsTrue (has_source self.old.last.size (block_at x y log2) vector) }
         ensures last { self.new.last ≡ self.old.last }
         ensures copied { (units : List ReadUnit) → Draws self.old units → Draws self.new (units ++ unit x y log2 (Copied vector) ∷ []) }
         ensures moved { (units : List ReadUnit) → Draws self.old units → Draws self.new (units ++ unit x y log2 (Moved vector) ∷ []) }

@@ -1,7 +1,7 @@
 //! Predicted blocks.
 ghost use Rattle.std.specs.Prelude.{◌≡◌, ◌+◌, ◌*◌, ◌<◌, ◌≤◌, ◌%◌, ◌^◌, length};
 ghost use Rattle.std.specs.Option.{option_copied};
-ghost use Rattle.h265_model.specs.Plain.{coded, AreBytes};
+ghost use Rattle.h265_model.specs.Plain.{block_at, coded, AreBytes};
 ghost use Rattle.h265_model.specs.Predict.{prediction};
 ghost use Rattle.h265_model.specs.Rebuild.{sums};
 ghost use Rattle.px_plane.specs.Planes.{IsPicture, Stores, picture_of};
@@ -34,7 +34,7 @@ fn predict_block(
     requires down { y + 2 ^ log2 ≤ coded drawn.now.size.h }
     requires mode { mode < 35 }
     requires block { length out.old ≡ 2 ^ log2 * 2 ^ log2 }
-    ensures { out.new ≡ prediction drawn.now.size (picture_of drawn.now) mode component x y log2 }
+    ensures { out.new ≡ prediction drawn.now.size (picture_of drawn.now) mode component (block_at x y log2) }
 {
     let line = refs(drawn, component, x, y, log2);
     if filtered(mode, log2) {

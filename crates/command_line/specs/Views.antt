@@ -12,7 +12,7 @@ abbrev pub texts : List (Bor (List ℕ)) → List (List ℕ)
 texts list = map (λ word. word.now) list
 
 abbrev pub settings_view : Settings → model.Settings
-settings_view s = record { size = s.size; effort = s.effort; key = s.key }
+settings_view s = model.plain s.size s.effort s.key
 
 -- a row of the table
 abbrev pub row_view : Row → words.Row

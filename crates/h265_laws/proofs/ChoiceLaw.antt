@@ -8,7 +8,7 @@ use Rattle.h265_model.specs.declared.leaf.SliceKind.TheVariants.{I, P}
 use Rattle.h265_model.specs.declared.leaf.Leaf.{Leaf}
 use Rattle.h265_model.specs.declared.leaf.Kind.{Kind}
 use Rattle.h265_model.specs.declared.leaf.Kind.TheVariants.{Skip, Pcm, Intra}
-use Rattle.h265_model.specs.Plain.{Size, Picture, leaf_with, below, ctu_x, ctu_y}
+use Rattle.h265_model.specs.Plain.{block_at, Size, Picture, leaf_with, below, ctu_x, ctu_y}
 use Rattle.h265_model.specs.Predict.{is_inside}
 use Rattle.h265_model.specs.Tree.{IsTree, IsLawfulTree, IsCodingUnit, AreQuarters, IsMode, AreAllowed, AreLawfulTrees, is_skipped, is_whole, samples_in, IsCopy}
 use Rattle.h265_model.specs.Choice.{Plan, cheaper, cheapest, one_leaf, skips, best_of, leaf_plan, no_leaves, split_plan, plan, choice, is_copy, same, modes_of, intra_cost}
@@ -22,9 +22,9 @@ IsFair (Some prev) now leaf = leaf.kind ≡ Skip → is_copy prev now leaf ≡ t
 -- a plan of one leaf
 record IsOneLeaf (prev : Option Picture) (now : Picture) (x y log2 : ℕ) (p : Plan) : Type 0 where
   kind : Kind
-  one : p.leaves ≡ leaf_with x y log2 kind ∷ []
+  one : p.leaves ≡ leaf_with (block_at x y log2) kind ∷ []
   mode : IsMode kind
-  fair : IsFair prev now (leaf_with x y log2 kind)
+  fair : IsFair prev now (leaf_with (block_at x y log2) kind)
 
 -- ---- the cheapest
 
@@ -55,32 +55,32 @@ modes_are zero = tt
 modes_are (suc zero) = all_from (modes_of 1) refl
 modes_are (suc (suc effort)) = all_from (modes_of 2) refl
 
-skips_are : (prev : Option Picture) (now : Picture) (x y log2 : ℕ) → AllByRecursion (IsOneLeaf prev now x y log2) (skips prev now (leaf_with x y log2 Skip))
+skips_are : (prev : Option Picture) (now : Picture) (x y log2 : ℕ) → AllByRecursion (IsOneLeaf prev now x y log2) (skips prev now (leaf_with (block_at x y log2) Skip))
 skips_are None now x y log2 = tt
-skips_are (Some prev) now x y log2 = go (is_copy prev now (leaf_with x y log2 Skip)) refl
+skips_are (Some prev) now x y log2 = go (is_copy prev now (leaf_with (block_at x y log2) Skip)) refl
   where
-    go : (t : Bool) → is_copy prev now (leaf_with x y log2 Skip) ≡ t → AllByRecursion (IsOneLeaf (Some prev) now x y log2) (cond t (one_leaf 1 (leaf_with x y log2 Skip) ∷ []) [])
+    go : (t : Bool) → is_copy prev now (leaf_with (block_at x y log2) Skip) ≡ t → AllByRecursion (IsOneLeaf (Some prev) now x y log2) (cond t (one_leaf 1 (leaf_with (block_at x y log2) Skip) ∷ []) [])
     go true e = (record { kind = Skip; one = refl; mode = tt; fair = λ k. e }, tt)
     go false e = tt
 
 not_skip : (k : Kind) → is_skipped k ≡ false → k ≡ Skip → ⊥
 not_skip k h e = let s : is_skipped k ≡ true = ap is_skipped e in absurd (cc)
 
-fair_coded : (prev : Option Picture) (now : Picture) (x y log2 : ℕ) (k : Kind) → is_skipped k ≡ false → IsFair prev now (leaf_with x y log2 k)
+fair_coded : (prev : Option Picture) (now : Picture) (x y log2 : ℕ) (k : Kind) → is_skipped k ≡ false → IsFair prev now (leaf_with (block_at x y log2) k)
 fair_coded None now x y log2 k h = h
 fair_coded (Some prev) now x y log2 k h = λ e. absurd (not_skip k h e)
 
 coded_are : (prev : Option Picture) (now : Picture) (size : Size) (x y log2 : ℕ) (modes : List ℕ) → AllByRecursion (λ m. m < 35) modes
-    → AllByRecursion (IsOneLeaf prev now x y log2) (map (λ mode. one_leaf (intra_cost size now (leaf_with x y log2 (Intra mode))) (leaf_with x y log2 (Intra mode))) modes)
+    → AllByRecursion (IsOneLeaf prev now x y log2) (map (λ mode. one_leaf (intra_cost size now (leaf_with (block_at x y log2) (Intra mode))) (leaf_with (block_at x y log2) (Intra mode))) modes)
 coded_are prev now size x y log2 [] h = tt
 coded_are prev now size x y log2 (m ∷ modes) h =
     (record { kind = Intra m; one = refl; mode = h.0; fair = fair_coded prev now x y log2 (Intra m) refl }, coded_are prev now size x y log2 modes h.1)
 
-leaf_plan_is : (prev : Option Picture) (now : Picture) (size : Size) (effort x y log2 : ℕ) → IsOneLeaf prev now x y log2 (leaf_plan prev now size effort x y log2)
+leaf_plan_is : (prev : Option Picture) (now : Picture) (size : Size) (effort x y log2 : ℕ) → IsOneLeaf prev now x y log2 (leaf_plan prev now size effort (block_at x y log2))
 unfolding leaf_plan
 leaf_plan_is prev now size effort x y log2 =
     best_is (IsOneLeaf prev now x y log2) _ _
-    (all_append (IsOneLeaf prev now x y log2) (skips prev now (leaf_with x y log2 Skip)) _ (skips_are prev now x y log2) (coded_are prev now size x y log2 (modes_of effort) (modes_are effort)))
+    (all_append (IsOneLeaf prev now x y log2) (skips prev now (leaf_with (block_at x y log2) Skip)) _ (skips_are prev now x y log2) (coded_are prev now size x y log2 (modes_of effort) (modes_are effort)))
     (record { kind = Pcm; one = refl; mode = tt; fair = fair_coded prev now x y log2 Pcm refl })
 
 -- ---- trees
@@ -89,7 +89,7 @@ record IsLawfulPlan (prev : Option Picture) (now : Picture) (size : Size) (depth
   tree : IsTree size depth x y p.leaves
   fair : AllByRecursion (IsFair prev now) p.leaves
 
-unit_of : (prev : Option Picture) (now : Picture) (x y log2 : ℕ) (p : Plan) → IsOneLeaf prev now x y log2 p → IsCodingUnit x y log2 p.leaves
+unit_of : (prev : Option Picture) (now : Picture) (x y log2 : ℕ) (p : Plan) → IsOneLeaf prev now x y log2 p → IsCodingUnit (block_at x y log2) p.leaves
 unit_of prev now x y log2 p h = record { kind = h.kind; one = h.one; mode = h.mode }
 
 fair_of : (prev : Option Picture) (now : Picture) (x y log2 : ℕ) (p : Plan) → IsOneLeaf prev now x y log2 p → AllByRecursion (IsFair prev now) p.leaves
@@ -99,12 +99,12 @@ plan_is : (prev : Option Picture) (now : Picture) (size : Size) (effort depth x 
 plan_is prev now size effort zero x y = record { tree = tree_there (is_inside size x y); fair = fair_there (is_inside size x y) }
   where
     one : Plan
-    one = leaf_plan prev now size effort x y 3
+    one = leaf_plan prev now size effort (block_at x y 3)
 
     is : IsOneLeaf prev now x y 3 one
     is = leaf_plan_is prev now size effort x y 3
 
-    tree_there : (b : Bool) → MatchBool b (IsCodingUnit x y 3 (cond b one no_leaves).leaves) ((cond b one no_leaves).leaves ≡ [])
+    tree_there : (b : Bool) → MatchBool b (IsCodingUnit (block_at x y 3) (cond b one no_leaves).leaves) ((cond b one no_leaves).leaves ≡ [])
     tree_there true = unit_of prev now x y 3 one is
     tree_there false = refl
 
@@ -127,7 +127,7 @@ plan_is prev now size effort (suc depth) x y =
     Lower = (px py : ℕ) → IsLawfulPlan prev now size depth px py (go px py)
 
     one : Plan
-    one = leaf_plan prev now size effort x y (4 + depth)
+    one = leaf_plan prev now size effort (block_at x y (4 + depth))
 
     split : Plan
     split = split_plan go half x y
@@ -156,9 +156,9 @@ plan_is prev now size effort (suc depth) x y =
         (lower (x + half) (y + half)).fair
 
     tree_there : Lower → (a b : Bool)
-        → MatchBool a (MatchBool b (IsCodingUnit x y (4 + depth) (cond (not a) no_leaves (cond (not b) split (cheaper one split))).leaves ⊎ AreQuarters (IsTree size depth) half x y (cond (not a) no_leaves (cond (not b) split (cheaper one split))).leaves)
+        → MatchBool a (MatchBool b (IsCodingUnit (block_at x y (4 + depth)) (cond (not a) no_leaves (cond (not b) split (cheaper one split))).leaves ⊎ AreQuarters (IsTree size depth) half x y (cond (not a) no_leaves (cond (not b) split (cheaper one split))).leaves)
         (AreQuarters (IsTree size depth) half x y (cond (not a) no_leaves (cond (not b) split (cheaper one split))).leaves)) ((cond (not a) no_leaves (cond (not b) split (cheaper one split))).leaves ≡ [])
-    tree_there lower true true = cheaper_is (λ p. IsCodingUnit x y (4 + depth) p.leaves ⊎ AreQuarters (IsTree size depth) half x y p.leaves) one split (inl (unit_of prev now x y (4 + depth) one is)) (inr (four lower))
+    tree_there lower true true = cheaper_is (λ p. IsCodingUnit (block_at x y (4 + depth)) p.leaves ⊎ AreQuarters (IsTree size depth) half x y p.leaves) one split (inl (unit_of prev now x y (4 + depth) one is)) (inr (four lower))
     tree_there lower true false = four lower
     tree_there lower false b = refl
 

@@ -10,7 +10,7 @@ use Rattle.h265_model.specs.declared.leaf.Leaf.{Leaf}
 use Rattle.h265_model.specs.Plain.{Size, ctus}
 use Rattle.h265_model.specs.Contexts.{start, row_start, AreContexts}
 use Rattle.h265_model.specs.Code.{Coding, fresh, put, coding, contexts_after}
-use Rattle.h265_model.specs.Tree.{Source, ctus_items}
+use Rattle.h265_model.specs.Tree.{is_last, leaf_units, Source, ctus_items}
 use Rattle.h265_model.specs.Slice.{contexts_at}
 use Rattle.h265_model.proofs.ContextLaws.{start_is, step_is}
 use Rattle.h265_laws.proofs.Parts.{put_contexts, stepped, coding_contexts}
@@ -59,8 +59,8 @@ row_start_is kind width (suc row) above are = go (nat_le 2 width)
     go true = are
     go false = start_is kind
 
-pub contexts_at_is : (kind : SliceKind) (size : Size) (source : Source) (leaves : List (List Leaf)) (row : ℕ) → AreContexts (contexts_at kind size source leaves row)
+pub contexts_at_is : (kind : SliceKind) (size : Size) (source : Source) (leaves : List (List Leaf)) (row : ℕ) → AreContexts (contexts_at kind (leaf_units kind source) size leaves row)
 unfolding contexts_at row_start
 contexts_at_is kind size source leaves zero = start_is kind
 contexts_at_is kind size source leaves (suc row) =
-    row_start_is kind (ctus size.w) (suc row) _ (after_is (ctus_items kind size source leaves row 2) (contexts_at kind size source leaves row) (contexts_at_is kind size source leaves row))
+    row_start_is kind (ctus size.w) (suc row) _ (after_is (ctus_items (leaf_units kind source) size (is_last size) leaves row 2) (contexts_at kind (leaf_units kind source) size leaves row) (contexts_at_is kind size source leaves row))

@@ -14,7 +14,7 @@ use Rattle.h265_laws.proofs.RowLaw.{joined_take}
 
 -- leaves with sides of 8, 16 or 32
 abbrev pub HaveSides : List Leaf → Type 0
-HaveSides leaves = AllByRecursion (λ leaf. IsSide leaf.log2) leaves
+HaveSides leaves = AllByRecursion (λ leaf. IsSide leaf.block.log2) leaves
 
 -- the leaves of each coding tree unit have sides of 8, 16 or 32
 abbrev pub AllHaveSides : List (List Leaf) → Type 0

@@ -6,7 +6,7 @@ use Rattle.std.proofs.lemmas.Bool.{and_parts, and_from, or_left, or_right, cases
 use Rattle.std.proofs.lemmas.List.Folds.{list_any-append}
 use Rattle.std.proofs.lemmas.Nat.{div-add-mod'}
 use Rattle.h265_model.specs.declared.leaf.Leaf.{Leaf}
-use Rattle.h265_model.specs.Plain.{Size, ctus, coded, leaf_with, ctu_x, ctu_y}
+use Rattle.h265_model.specs.Plain.{block_at, Size, ctus, coded, leaf_with, ctu_x, ctu_y}
 use Rattle.h265_model.specs.Predict.{is_inside, coding_order}
 use Rattle.h265_model.specs.Residual.{IsSide, eight, sixteen, thirty_two}
 use Rattle.h265_model.specs.Tree.{is_whole, IsTree, IsLawfulTree, IsCodingUnit, AreQuarters}
@@ -23,10 +23,10 @@ pub record Covers (size : Size) (leaves : List Leaf) (number : ℕ) : Type 0 whe
 
 -- a leaf in the picture, after leaves that cover all that comes before it
 pub record IsPlaced (size : Size) (before : List Leaf) (leaf : Leaf) : Type 0 where
-  pub side : IsSide leaf.log2
-  pub right : leaf.x + leaf_side leaf ≤ coded size.w
-  pub bottom : leaf.y + leaf_side leaf ≤ coded size.h
-  pub behind : Covers size before (coding_order size leaf.x leaf.y)
+  pub side : IsSide leaf.block.log2
+  pub right : leaf.block.x + leaf_side leaf ≤ coded size.w
+  pub bottom : leaf.block.y + leaf_side leaf ≤ coded size.h
+  pub behind : Covers size before (coding_order size leaf.block.x leaf.block.y)
 
 abbrev pub ArePlaced : Size → List Leaf → List Leaf → Type 0
 ArePlaced size before [] = Unit {0}
@@ -96,11 +96,11 @@ inside_column size x y h = let a : x < coded size.w = (inside_parts size x y h).
 
 -- ---- what is covered
 
-covers_from : (leaf : Leaf) (x y : ℕ) → IsWithin leaf.x leaf.y (leaf_side leaf) x y → covers x y leaf ≡ true
+covers_from : (leaf : Leaf) (x y : ℕ) → IsWithin leaf.block.x leaf.block.y (leaf_side leaf) x y → covers x y leaf ≡ true
 covers_from leaf x y w =
-    and_from _ _ (and_from _ _ (and_from _ _ (le-leb leaf.x x w.left) (lt-ltb x (leaf.x + leaf_side leaf) w.right)) (le-leb leaf.y y w.top)) (lt-ltb y (leaf.y + leaf_side leaf) w.bottom)
+    and_from _ _ (and_from _ _ (and_from _ _ (le-leb leaf.block.x x w.left) (lt-ltb x (leaf.block.x + leaf_side leaf) w.right)) (le-leb leaf.block.y y w.top)) (lt-ltb y (leaf.block.y + leaf_side leaf) w.bottom)
 
-pub covers_parts : (leaf : Leaf) (x y : ℕ) → covers x y leaf ≡ true → IsWithin leaf.x leaf.y (leaf_side leaf) x y
+pub covers_parts : (leaf : Leaf) (x y : ℕ) → covers x y leaf ≡ true → IsWithin leaf.block.x leaf.block.y (leaf_side leaf) x y
 covers_parts leaf x y h =
     let p = and_parts _ _ h in
     let q = and_parts _ _ p.0 in
@@ -115,16 +115,16 @@ covered_after before leaves x y h = list_any-append (covers x y) before leaves �
 
 -- ---- one leaf, or none
 
-one_covers : (size : Size) (before : List Leaf) (leaf : Leaf) → IsSide leaf.log2 → IsAligned size leaf.log2 leaf.x leaf.y → leaf.x + leaf_side leaf ≤ coded size.w → leaf.y + leaf_side leaf ≤ coded size.h
-    → Covers size before (coding_order size leaf.x leaf.y) → CoversBlock size before (leaf ∷ []) (coding_order size leaf.x leaf.y) (4 ^ leaf.log2)
+one_covers : (size : Size) (before : List Leaf) (leaf : Leaf) → IsSide leaf.block.log2 → IsAligned size leaf.block.log2 leaf.block.x leaf.block.y → leaf.block.x + leaf_side leaf ≤ coded size.w → leaf.block.y + leaf_side leaf ≤ coded size.h
+    → Covers size before (coding_order size leaf.block.x leaf.block.y) → CoversBlock size before (leaf ∷ []) (coding_order size leaf.block.x leaf.block.y) (4 ^ leaf.block.log2)
 one_covers size before leaf side at right bottom behind = record {
   placed = (record { side = side; right = right; bottom = bottom; behind = behind }, tt);
   covers = record {
     each = λ x y inside lower. ⊎_elim
         (λ earlier. covered_before before (leaf ∷ []) x y (behind.each x y inside earlier))
         (λ later. covered_after before (leaf ∷ []) x y (or_left (covers x y leaf) false
-        (covers_from leaf x y (in_block size leaf.log2 leaf.x leaf.y x y side at.x_even at.y_even at.column (inside_column size x y inside) later lower))))
-        (cases_lt (coding_order size x y) (coding_order size leaf.x leaf.y));
+        (covers_from leaf x y (in_block size leaf.block.log2 leaf.block.x leaf.block.y x y side at.x_even at.y_even at.column (inside_column size x y inside) later lower))))
+        (cases_lt (coding_order size x y) (coding_order size leaf.block.x leaf.block.y));
   };
 }
 
@@ -160,10 +160,10 @@ block_side (suc (suc zero)) h = thirty_two
 block_side (suc (suc (suc depth))) h = absurd (omega arith)
 
 unit_covers : (size : Size) (log2 x y : ℕ) (before leaves : List Leaf) → IsSide log2 → IsAligned size log2 x y → x + 2 ^ log2 ≤ coded size.w → y + 2 ^ log2 ≤ coded size.h
-    → IsCodingUnit x y log2 leaves → Covers size before (coding_order size x y) → CoversBlock size before leaves (coding_order size x y) (4 ^ log2)
+    → IsCodingUnit (block_at x y log2) leaves → Covers size before (coding_order size x y) → CoversBlock size before leaves (coding_order size x y) (4 ^ log2)
 unit_covers size log2 x y before leaves side at right bottom u behind =
     subst (λ (l : List Leaf). CoversBlock size before l (coding_order size x y) (4 ^ log2)) (sym u.one)
-    (one_covers size before (leaf_with x y log2 u.kind) side at right bottom behind)
+    (one_covers size before (leaf_with (block_at x y log2) u.kind) side at right bottom behind)
 
 empty_covers : (size : Size) (log2 x y : ℕ) (before leaves : List Leaf) → IsSide log2 → IsAligned size log2 x y → is_inside size x y ≡ false → leaves ≡ []
     → Covers size before (coding_order size x y) → CoversBlock size before leaves (coding_order size x y) (4 ^ log2)
@@ -192,7 +192,7 @@ pub tree_covers : (size : Size) (depth x y : ℕ) (before leaves : List Leaf) �
     → Covers size before (coding_order size x y) → CoversBlock size before leaves (coding_order size x y) (4 ^ (3 + depth))
 tree_covers size zero x y before leaves small at t behind = go (is_inside size x y) refl t
   where
-    go : (b : Bool) → is_inside size x y ≡ b → MatchBool b (IsCodingUnit x y 3 leaves) (leaves ≡ []) → CoversBlock size before leaves (coding_order size x y) (4 ^ 3)
+    go : (b : Bool) → is_inside size x y ≡ b → MatchBool b (IsCodingUnit (block_at x y 3) leaves) (leaves ≡ []) → CoversBlock size before leaves (coding_order size x y) (4 ^ 3)
     go true e u =
         let p : (x < coded size.w) × (y < coded size.h) = inside_parts size x y e in
         unit_covers size 3 x y before leaves eight at (eight_fit x size.w at.x_even p.0) (eight_fit y size.h at.y_even p.1) u behind
@@ -250,7 +250,7 @@ tree_covers size (suc depth) x y before leaves small at t behind =
               (covers_to size (b3 ++ q.fourth) _ _ (let a : coding_order size (x + half) (y + half) ≡ number + 3 * count = follow.across in let f : 4 ^ (3 + suc depth) ≡ 4 * count = four_times depth in omega arith) c4.covers);
         }
 
-    whole : IsCodingUnit x y (4 + depth) leaves → is_whole size (2 * half) x y ≡ true → CoversBlock size before leaves number (4 ^ (3 + suc depth))
+    whole : IsCodingUnit (block_at x y (4 + depth)) leaves → is_whole size (2 * half) x y ≡ true → CoversBlock size before leaves number (4 ^ (3 + suc depth))
     whole u f =
         let p = and_parts _ _ f in
         let right : x + 2 * half ≤ coded size.w = leb-true _ _ p.0 in
@@ -260,11 +260,11 @@ tree_covers size (suc depth) x y before leaves small at t behind =
         (subst (λ (s : ℕ). x + s ≤ coded size.w) (twice depth) right) (subst (λ (s : ℕ). y + s ≤ coded size.h) (twice depth) bottom) u behind)
 
     go : (a : Bool) → is_inside size x y ≡ a → (b : Bool) → is_whole size (2 * half) x y ≡ b
-        → MatchBool a (MatchBool b (IsCodingUnit x y (4 + depth) leaves ⊎ AreQuarters (IsTree size depth) half x y leaves) (AreQuarters (IsTree size depth) half x y leaves)) (leaves ≡ [])
+        → MatchBool a (MatchBool b (IsCodingUnit (block_at x y (4 + depth)) leaves ⊎ AreQuarters (IsTree size depth) half x y leaves) (AreQuarters (IsTree size depth) half x y leaves)) (leaves ≡ [])
         → Lower → CoversBlock size before leaves number (4 ^ (3 + suc depth))
     go false e b f none lower = empty_covers size (3 + suc depth) x y before leaves (block_side (suc depth) small) at e none behind
     go true e false f q lower = four q lower
-    go true e true f u lower = ⊎_elim (λ (v : IsCodingUnit x y (4 + depth) leaves). whole v f) (λ q. four q lower) u
+    go true e true f u lower = ⊎_elim (λ (v : IsCodingUnit (block_at x y (4 + depth)) leaves). whole v f) (λ q. four q lower) u
 
 -- ---- coding tree units
 

@@ -12,7 +12,7 @@ use Rattle.h265_model.specs.Raster.{planes, blank}
 use Rattle.h265_model.specs.NalUnits.{NalUnit}
 use Rattle.h265_model.specs.SliceHead.{read_head}
 use Rattle.h265_model.specs.Stream.{nal_header, slice_kind}
-use Rattle.h265_model.specs.Tree.{Source, samples_in}
+use Rattle.h265_model.specs.Tree.{leaf_units, Source, samples_in}
 use Rattle.h265_model.specs.Slice.{substreams}
 use Rattle.h265_model.specs.Rebuild.{sums, with_block}
 use Rattle.h265_model.specs.Decode.{Decoded, decoded_picture, ok_of}
@@ -61,7 +61,7 @@ unfoldable pub block_of : Size → Picture → Picture → Leaf → Content → 
 block_of size prev now leaf Copied component = samples_in prev leaf component
 block_of size prev now leaf (Samples planes) component = get_or planes component []
 block_of size prev now leaf (Levels mode planes) component =
-    sums (prediction size now mode component leaf.x leaf.y leaf.log2) (get_or planes component [])
+    sums (prediction size now mode component leaf.block) (get_or planes component [])
 
 abbrev pub with_leaf : Size → Picture → Picture → ReadLeaf → Picture
 with_leaf size prev now read = with_block now (leaf_of read) (block_of size prev now (leaf_of read) read.content)
@@ -114,7 +114,7 @@ read_picture size before unit =
 abbrev pub EachSliceIsRead : Type 0
 EachSliceIsRead =
     (kind : SliceKind) (size : Size) (source : Source) (leaves : List (List Leaf)) → IsSlice kind size source leaves → 0 < ctus size.h →
-    (let rows : List (List ℕ) = map (row_code kind size source leaves) (below (ctus size.h)) in
+    (let rows : List (List ℕ) = map (row_code kind (leaf_units kind source) size leaves) (below (ctus size.h)) in
     (found : List ReadCtu) × (read_data kind size (map length (but_last (map escape rows))) (joined rows) ≡ Some found)
     × (flat_map (λ ctu. ctu.leaves) found ≡ reads_of source (joined leaves)))
 

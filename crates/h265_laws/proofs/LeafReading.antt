@@ -6,14 +6,15 @@ use Rattle.h265_model.specs.declared.leaf.SliceKind.TheVariants.{I, P}
 use Rattle.h265_model.specs.declared.leaf.Kind.{Kind}
 use Rattle.h265_model.specs.declared.leaf.Kind.TheVariants.{Skip, Pcm, Intra}
 use Rattle.h265_model.specs.declared.leaf.Leaf.{Leaf}
-use Rattle.h265_model.specs.Plain.{Size, ctus, joined, ctu_x, ctu_y}
+use Rattle.h265_model.specs.declared.block.CodingBlock.{CodingBlock}
+use Rattle.h265_model.specs.Plain.{block_at, side, Size, ctus, joined, ctu_x, ctu_y}
 use Rattle.h265_model.specs.SyntaxElements.{cbf_cb, cbf_cr, cu_transquant_bypass_flag, pred_mode_flag, part_mode, intra_chroma_pred_mode, cbf_luma}
 use Rattle.h265_model.specs.Engine.{Reader, ◌>>=◌, give, bin, samples}
 use Rattle.h265_model.specs.Modes.{mode_read}
 use Rattle.h265_model.specs.Predict.{is_inside}
 use Rattle.h265_model.specs.Code.{contexts_after}
 use Rattle.h265_model.specs.Raster.{planes}
-use Rattle.h265_model.specs.Tree.{Source, ctu_items, is_whole, is_last, split_context, candidates_at, expect, thirds, component_read, skip_read, contexts_read}
+use Rattle.h265_model.specs.Tree.{leaf_units, Source, ctu_items, is_whole, is_last, split_context, candidates_at, expect, thirds, component_read, skip_read, contexts_read}
 use Rattle.h265_model.specs.Engine.{Reads, ReadsWith}
 use Rattle.h265_model.specs.Residual.{IsSide}
 use Rattle.h265_model.specs.Plain.{leaf_with}
@@ -26,9 +27,7 @@ pub data Content : Type 0 where
   Levels : ℕ → List (List ℤ) → Content
 
 pub record ReadLeaf : Type 0 where
-  pub x : ℕ
-  pub y : ℕ
-  pub log2 : ℕ
+  pub block : CodingBlock
   pub content : Content
 
 abbrev pub kind_of : Content → Kind
@@ -37,18 +36,18 @@ kind_of (Samples planes) = Pcm
 kind_of (Levels mode planes) = Intra mode
 
 abbrev pub leaf_of : ReadLeaf → Leaf
-leaf_of read = record { x = read.x; y = read.y; log2 = read.log2; kind = kind_of read.content }
+leaf_of read = record { block = read.block; kind = kind_of read.content }
 
-abbrev pub intra_read : List Leaf → ℕ → ℕ → ℕ → Reader Content
-intra_read before x y log2 = do
-  mode ← mode_read (candidates_at before x y)
+abbrev pub intra_read : List Leaf → CodingBlock → Reader Content
+intra_read before block = do
+  mode ← mode_read (candidates_at before block.x block.y)
   expect (Context intra_chroma_pred_mode) false (do
     cb ← bin (Context cbf_cb)
     cr ← bin (Context cbf_cr)
     luma ← bin (Context cbf_luma)
-    first ← component_read log2 mode 0 luma
-    second ← component_read log2 mode 1 cb
-    third ← component_read log2 mode 2 cr
+    first ← component_read block.log2 mode 0 luma
+    second ← component_read block.log2 mode 1 cb
+    third ← component_read block.log2 mode 2 cr
     give (Levels mode (first ∷ second ∷ third ∷ [])))
 
 abbrev pub pcm_read : ℕ → Reader Content
@@ -56,24 +55,24 @@ pcm_read n = do
   list ← samples (n + n + n)
   give (Samples (thirds n list))
 
-abbrev pub content_read : List Leaf → ℕ → ℕ → ℕ → Reader Content
-content_read before x y log2 = do
+abbrev pub content_read : List Leaf → CodingBlock → Reader Content
+content_read before block = do
   pcm ← bin Terminate
-  if pcm then pcm_read (2 ^ log2 * 2 ^ log2) else intra_read before x y log2
+  if pcm then pcm_read (side block * side block) else intra_read before block
 
 abbrev pub part_mode_read : ℕ → Reader Content → Reader Content
 part_mode_read log2 read = if log2 == 3 then expect (Context part_mode) true read else read
 
-abbrev pub coded_read : SliceKind → List Leaf → ℕ → ℕ → ℕ → Reader Content
-coded_read I before x y log2 = part_mode_read log2 (content_read before x y log2)
-coded_read P before x y log2 = expect (Context pred_mode_flag) true (part_mode_read log2 (content_read before x y log2))
+abbrev pub coded_read : SliceKind → List Leaf → CodingBlock → Reader Content
+coded_read I before block = part_mode_read block.log2 (content_read before block)
+coded_read P before block = expect (Context pred_mode_flag) true (part_mode_read block.log2 (content_read before block))
 
 -- 7.3.8.5
-unfoldable pub coding_unit_read : SliceKind → List Leaf → ℕ → ℕ → ℕ → Reader (List ReadLeaf)
-coding_unit_read kind before x y log2 = expect (Context cu_transquant_bypass_flag) true (do
-  skipped ← skip_read kind before x y
-  content ← if skipped then give Copied else coded_read kind before x y log2
-  give (record { x = x; y = y; log2 = log2; content = content } ∷ []))
+unfoldable pub coding_unit_read : SliceKind → List Leaf → CodingBlock → Reader (List ReadLeaf)
+coding_unit_read kind before block = expect (Context cu_transquant_bypass_flag) true (do
+  skipped ← skip_read kind before block.x block.y
+  content ← if skipped then give Copied else coded_read kind before block
+  give (record { block = block; content = content } ∷ []))
 
 abbrev pub leaves_after : List Leaf → List ReadLeaf → List Leaf
 leaves_after before read = before ++ map leaf_of read
@@ -88,13 +87,13 @@ quarters_read go half x y before = do
 
 -- 7.3.8.4: the block of side 2 ^ (3 + depth) at (x, y), after these leaves
 abbrev pub tree_read : SliceKind → Size → ℕ → ℕ → ℕ → List Leaf → Reader (List ReadLeaf)
-tree_read kind size zero x y before = if is_inside size x y then coding_unit_read kind before x y 3 else give []
+tree_read kind size zero x y before = if is_inside size x y then coding_unit_read kind before (block_at x y 3) else give []
 tree_read kind size (suc depth) x y before =
     let half : ℕ = 2 ^ (3 + depth) in
     let split : Reader (List ReadLeaf) = quarters_read (tree_read kind size depth) half x y before in
     if not (is_inside size x y) then give []
     else if not (is_whole size (2 * half) x y) then split
-    else (bin (Context (split_context before x y (4 + depth))) >>= λ flag. if flag then split else coding_unit_read kind before x y (4 + depth))
+    else (bin (Context (split_context before (block_at x y (4 + depth)))) >>= λ flag. if flag then split else coding_unit_read kind before (block_at x y (4 + depth)))
 
 -- 7.3.8.2
 unfoldable pub ctu_read : SliceKind → Size → List Leaf → ℕ → Reader (List ReadLeaf)
@@ -128,7 +127,7 @@ content_of source leaf Pcm = Samples (source.samples leaf 0 ∷ source.samples l
 content_of source leaf (Intra mode) = Levels mode (source.levels leaf 0 ∷ source.levels leaf 1 ∷ source.levels leaf 2 ∷ [])
 
 abbrev pub read_of : Source → Leaf → ReadLeaf
-read_of source leaf = record { x = leaf.x; y = leaf.y; log2 = leaf.log2; content = content_of source leaf leaf.kind }
+read_of source leaf = record { block = leaf.block; content = content_of source leaf leaf.kind }
 
 abbrev pub reads_of : Source → List Leaf → List ReadLeaf
 reads_of source leaves = map (read_of source) leaves
@@ -137,7 +136,7 @@ reads_of source leaves = map (read_of source) leaves
 abbrev pub values_from : SliceKind → Size → Source → List (List Leaf) → ℕ → ℕ → List ℕ → List ReadCtu
 values_from kind size source leaves ctu zero c = []
 values_from kind size source leaves ctu (suc n) c =
-    let after_ctu : List ℕ = contexts_after (ctu_items kind size source (joined (take ctu leaves)) (get_or leaves ctu []) ctu) c in
+    let after_ctu : List ℕ = contexts_after (ctu_items (leaf_units kind source) size (joined (take ctu leaves)) (get_or leaves ctu []) ctu) c in
     record { leaves = reads_of source (get_or leaves ctu []); contexts = after_ctu } ∷ values_from kind size source leaves (suc ctu) n after_ctu
 
 -- ---- what is written is read
@@ -146,18 +145,18 @@ values_from kind size source leaves ctu (suc n) c =
 abbrev pub EachLeafIsRead : Type 0
 EachLeafIsRead =
     (kind : SliceKind) (source : Source) (before : List Leaf) (x y log2 : ℕ) (k : Kind) → IsSide log2 → IsSource source → AreModes before → IsMode k → IsAllowed kind k →
-    Reads (coding_unit_read kind before x y log2) (coding_unit_items kind source before (leaf_with x y log2 k)) (reads_of source (leaf_with x y log2 k ∷ []))
+    Reads (coding_unit_read kind before (block_at x y log2)) (coding_unit_items kind source before (leaf_with (block_at x y log2) k)) (reads_of source (leaf_with (block_at x y log2) k ∷ []))
 
 -- a coding tree unit (7.3.8.2, 7.3.8.4)
 abbrev pub EachTreeIsRead : Type 0
 EachTreeIsRead =
     (kind : SliceKind) (size : Size) (source : Source) (ctu : ℕ) (before leaves : List Leaf) → IsSource source → IsLawfulTree size ctu leaves → AreModes before → AreAllowed kind leaves →
-    Reads (ctu_read kind size before ctu) (ctu_items kind size source before leaves ctu) (reads_of source leaves)
+    Reads (ctu_read kind size before ctu) (ctu_items (leaf_units kind source) size before leaves ctu) (reads_of source leaves)
 
 -- a row of coding tree units, with the contexts after each (7.3.8.1)
 abbrev pub EachRowIsRead : Type 0
 EachRowIsRead =
     (kind : SliceKind) (size : Size) (source : Source) (leaves : List (List Leaf)) (row total : ℕ) →
     row * ctus size.w + ctus size.w ≤ total → AreLawfulTrees kind size leaves total → IsSource source →
-    ReadsWith (read_row kind size row (take (row * ctus size.w) leaves)) (items_of_row kind size source leaves row)
+    ReadsWith (read_row kind size row (take (row * ctus size.w) leaves)) (items_of_row (leaf_units kind source) size leaves row)
     (values_from kind size source leaves (row * ctus size.w) (ctus size.w))

@@ -14,7 +14,7 @@ use Rattle.h265_model.specs.declared.leaf.SliceKind.TheVariants.{I, P}
 use Rattle.h265_model.specs.declared.leaf.Kind.{Kind}
 use Rattle.h265_model.specs.declared.leaf.Kind.TheVariants.{Skip, Pcm, Intra}
 use Rattle.h265_model.specs.declared.leaf.Leaf.{Leaf}
-use Rattle.h265_model.specs.Plain.{Size, ctus, context_bin, bypass_bin, terminate_bin, ctu_x, ctu_y, joined}
+use Rattle.h265_model.specs.Plain.{block_at, Size, ctus, context_bin, bypass_bin, terminate_bin, ctu_x, ctu_y, joined}
 use Rattle.h265_model.specs.Contexts.{lps_range, mps, step}
 use Rattle.h265_model.specs.Engine.{doublings}
 use Rattle.h265_model.specs.Code.{Coding, bytes_of, closing, fresh, scaled, put, put_bin, coding, code}
@@ -23,7 +23,7 @@ use Rattle.h265_model.specs.Modes.{mode_items, index_items, remainder_of}
 use Rattle.h265_model.specs.NalUnits.{escape_after, escape}
 use Rattle.h265_model.specs.Residual.{Shape, Sub, Known, IsSide, eight, sixteen, thirty_two, scan, sub_scan, level_at, is_zero, is_negative, cbf, sig_at, is_implied, sig_items, greater1_items, greater1_flags, greater2_items, greater2_context, greater2_of, has_flag, counted, rest_items, rice_after, known_of, value_items, nonzero, set_of, sub_items, sub_at, flag_context, ended_at_zero, last_items, last_context, prefix_of, suffix_bits, suffix_base, swapped, place_at, place_of, from_last, without_leading_zeros, from_subs, residual_items, in_coding_order}
 use Rattle.h265_model.specs.Predict.{is_inside}
-use Rattle.h265_model.specs.Tree.{Source, IsSource, is_skipped, skip_context, split_context, candidates_at, shape_of, residual_if, content_items, in_P, coding_unit_items, Walk, walk_on, and_walk, quarters, coding_unit_walk, no_walk, is_whole, is_leaf, tree_walk, ctu_items, ctu_with_flag, is_last, items_of_row, ctus_items}
+use Rattle.h265_model.specs.Tree.{leaf_block, leaf_units, Source, IsSource, is_skipped, skip_context, split_context, candidates_at, shape_of, residual_if, content_items, in_P, coding_unit_items, Walk, walk_on, and_walk, quarters, coding_unit_walk, no_walk, is_whole, is_next, tree_walk, ctu_items, ctu_with_flag, is_last, items_of_row, ctus_items}
 use Rattle.h265_model.proofs.BitLaws.{length-u}
 use Rattle.h265_laws.proofs.FormLaw.{length_tr}
 use Rattle.h265_laws.proofs.CoverLaw.{HaveSides, AllHaveSides}
@@ -384,29 +384,29 @@ length_residual_if log2 mode component levels side = go (cbf levels)
     go true = length_residual (shape_of log2 mode component) levels side (side_at_most log2 side).0
     go false = omega arith
 
-length_content : (source : Source) (before : List Leaf) (leaf : Leaf) (k : Kind) → IsSource source → IsSide leaf.log2 → length (content_items source before leaf k) ≤ 135100
+length_content : (source : Source) (before : List Leaf) (leaf : Leaf) (k : Kind) → IsSource source → IsSide leaf.block.log2 → length (content_items source before leaf k) ≤ 135100
 length_content source before leaf Skip is side = omega arith
 length_content source before leaf Pcm is side =
     let a : List ℕ = source.samples leaf 0 in
     let b : List ℕ = source.samples leaf 1 in
     let c : List ℕ = source.samples leaf 2 in
-    let m : 2 ^ leaf.log2 * 2 ^ leaf.log2 ≤ 1024 = (side_at_most leaf.log2 side).1 in
-    three a b c (2 ^ leaf.log2 * 2 ^ leaf.log2) (is.samples_long leaf 0) (is.samples_long leaf 1) (is.samples_long leaf 2) m
+    let m : 2 ^ leaf.block.log2 * 2 ^ leaf.block.log2 ≤ 1024 = (side_at_most leaf.block.log2 side).1 in
+    three a b c (2 ^ leaf.block.log2 * 2 ^ leaf.block.log2) (is.samples_long leaf 0) (is.samples_long leaf 1) (is.samples_long leaf 2) m
   where
     three : (a b c : List ℕ) (n : ℕ) → length a ≡ n → length b ≡ n → length c ≡ n → n ≤ 1024 → length (terminate_bin true ∷ map items.Sample ((a ++ b) ++ c)) ≤ 135100
     three a b c n ha hb hc hn = omega (arith, length-map ((a ++ b) ++ c) items.Sample, length-append (a ++ b) c, length-append a b)
 length_content source before leaf (Intra mode) is side =
-    five (mode_items mode (candidates_at before leaf.x leaf.y)) (residual_if leaf.log2 mode 0 (source.levels leaf 0)) (residual_if leaf.log2 mode 1 (source.levels leaf 1)) (residual_if leaf.log2 mode 2 (source.levels leaf 2))
+    five (mode_items mode (candidates_at before leaf.block.x leaf.block.y)) (residual_if leaf.block.log2 mode 0 (source.levels leaf 0)) (residual_if leaf.block.log2 mode 1 (source.levels leaf 1)) (residual_if leaf.block.log2 mode 2 (source.levels leaf 2))
     (context_bin false 10) (context_bin (cbf (source.levels leaf 1)) 12) (context_bin (cbf (source.levels leaf 2)) 12) (context_bin (cbf (source.levels leaf 0)) 11)
-    (length_mode mode (candidates_at before leaf.x leaf.y)) (length_residual_if leaf.log2 mode 0 (source.levels leaf 0) side) (length_residual_if leaf.log2 mode 1 (source.levels leaf 1) side) (length_residual_if leaf.log2 mode 2 (source.levels leaf 2) side)
+    (length_mode mode (candidates_at before leaf.block.x leaf.block.y)) (length_residual_if leaf.block.log2 mode 0 (source.levels leaf 0) side) (length_residual_if leaf.block.log2 mode 1 (source.levels leaf 1) side) (length_residual_if leaf.block.log2 mode 2 (source.levels leaf 2) side)
   where
     five : (m a b c : List Item) (w x y z : Item) → length m ≤ 6 → length a ≤ 45000 → length b ≤ 45000 → length c ≤ 45000
         → length (terminate_bin false ∷ (m ++ (w ∷ x ∷ y ∷ z ∷ (a ++ (b ++ c))))) ≤ 135100
     five m a b c w x y z hm ha hb hc = omega (arith, length-append m (w ∷ x ∷ y ∷ z ∷ (a ++ (b ++ c))), length-append a (b ++ c), length-append b c)
 
-pub length_unit : (kind : SliceKind) (source : Source) (before : List Leaf) (leaf : Leaf) → IsSource source → IsSide leaf.log2 → length (coding_unit_items kind source before leaf) ≤ 136000
+pub length_unit : (kind : SliceKind) (source : Source) (before : List Leaf) (leaf : Leaf) → IsSource source → IsSide leaf.block.log2 → length (coding_unit_items kind source before leaf) ≤ 136000
 unfolding coding_unit_items
-length_unit kind source before leaf is side = go kind (is_skipped leaf.kind) (leaf.log2 == 3)
+length_unit kind source before leaf is side = go kind (is_skipped leaf.kind) (leaf.block.log2 == 3)
   where
     content : List Item
     content = content_items source before leaf leaf.kind
@@ -415,7 +415,7 @@ length_unit kind source before leaf is side = go kind (is_skipped leaf.kind) (le
     h = length_content source before leaf leaf.kind is side
 
     front : SliceKind → List Item
-    front s = context_bin true 0 ∷ in_P s (context_bin (is_skipped leaf.kind) (skip_context before leaf.x leaf.y) ∷ [])
+    front s = context_bin true 0 ∷ in_P s (context_bin (is_skipped leaf.kind) (skip_context before leaf.block.x leaf.block.y) ∷ [])
 
     go : (s : SliceKind) (a b : Bool) → length (front s ++ cond a [] (in_P s (context_bin true 7 ∷ []) ++ (cond b (context_bin true 8 ∷ []) [] ++ content))) ≤ 136000
     go I true b = omega arith
@@ -432,35 +432,35 @@ most_items : ℕ → ℕ
 most_items zero = 136000
 most_items (suc depth) = 4 * most_items depth + 136001
 
-record IsShort (n : ℕ) (w : Walk) : Type 0 where
+record IsShort (n : ℕ) (w : Walk Leaf Leaf) : Type 0 where
   short : length w.list ≤ n
   left : HaveSides w.left
 
-short_on : (list : List Item) (w : Walk) (m n : ℕ) → length list ≤ m → IsShort n w → IsShort (m + n) (walk_on list w)
+short_on : (list : List Item) (w : Walk Leaf Leaf) (m n : ℕ) → length list ≤ m → IsShort n w → IsShort (m + n) (walk_on list w)
 short_on list w m n h k = record { short = let s : length w.list ≤ n = k.short in omega (arith, length-append list w.list); left = k.left }
 
-short_both : (w : Walk) (go : List Leaf → List Leaf → Walk) (m n : ℕ) → IsShort m w → ((before left : List Leaf) → HaveSides left → IsShort n (go before left)) → IsShort (m + n) (and_walk w go)
+short_both : (w : Walk Leaf Leaf) (go : List Leaf → List Leaf → Walk Leaf Leaf) (m n : ℕ) → IsShort m w → ((before left : List Leaf) → HaveSides left → IsShort n (go before left)) → IsShort (m + n) (and_walk w go)
 short_both w go m n h k = short_on w.list (go w.before w.left) m n h.short (k w.before w.left h.left)
 
-shorter : (w : Walk) (m n : ℕ) → m ≤ n → IsShort m w → IsShort n w
+shorter : (w : Walk Leaf Leaf) (m n : ℕ) → m ≤ n → IsShort m w → IsShort n w
 shorter w m n h k = record { short = let s : length w.list ≤ m = k.short in omega arith; left = k.left }
 
-unit_short : (kind : SliceKind) (source : Source) (before left : List Leaf) → IsSource source → HaveSides left → IsShort 136000 (coding_unit_walk kind source before left)
+unit_short : (kind : SliceKind) (source : Source) (before left : List Leaf) → IsSource source → HaveSides left → IsShort 136000 (coding_unit_walk (leaf_units kind source) before left)
 unit_short kind source before [] is h = record { short = omega arith; left = tt }
 unit_short kind source before (leaf ∷ leaves) is h = record { short = length_unit kind source before leaf is h.0; left = h.1 }
 
 none_short : (n : ℕ) (before left : List Leaf) → HaveSides left → IsShort n (no_walk before left)
 none_short n before left h = record { short = omega arith; left = h }
 
-tree_short : (kind : SliceKind) (size : Size) (source : Source) (depth x y : ℕ) (before left : List Leaf) → IsSource source → HaveSides left → IsShort (most_items depth) (tree_walk kind size source depth x y before left)
+tree_short : (kind : SliceKind) (size : Size) (source : Source) (depth x y : ℕ) (before left : List Leaf) → IsSource source → HaveSides left → IsShort (most_items depth) (tree_walk (leaf_units kind source) size depth x y before left)
 unfolding most_items
 tree_short kind size source zero x y before left is h = go (is_inside size x y)
   where
-    go : (b : Bool) → IsShort 136000 (cond b (coding_unit_walk kind source before left) (no_walk before left))
+    go : (b : Bool) → IsShort 136000 (cond b (coding_unit_walk (leaf_units kind source) before left) (no_walk before left))
     go true = unit_short kind source before left is h
     go false = none_short 136000 before left h
 tree_short kind size source (suc depth) x y before left is h =
-    go (not (is_inside size x y)) (not (is_whole size (2 * half) x y)) (is_leaf (4 + depth) left) (λ px py b l k. tree_short kind size source depth px py b l is k)
+    go (not (is_inside size x y)) (not (is_whole size (2 * half) x y)) (is_next leaf_block (4 + depth) left) (λ px py b l k. tree_short kind size source depth px py b l is k)
   where
     half : ℕ
     half = 2 ^ (3 + depth)
@@ -469,49 +469,49 @@ tree_short kind size source (suc depth) x y before left is h =
     n = most_items depth
 
     Lower : Type 0
-    Lower = (px py : ℕ) (b l : List Leaf) → HaveSides l → IsShort n (tree_walk kind size source depth px py b l)
+    Lower = (px py : ℕ) (b l : List Leaf) → HaveSides l → IsShort n (tree_walk (leaf_units kind source) size depth px py b l)
 
-    split : Walk
-    split = quarters (tree_walk kind size source depth) half x y before left
+    split : Walk Leaf Leaf
+    split = quarters (tree_walk (leaf_units kind source) size depth) half x y before left
 
     flag : Bool → List Item
-    flag value = context_bin value (split_context before x y (4 + depth)) ∷ []
+    flag value = context_bin value (split_context before (block_at x y (4 + depth))) ∷ []
 
     split_short : Lower → IsShort (n + n + n + n) split
     split_short lower =
         short_both _ _ (n + n + n) n (short_both _ _ (n + n) n (short_both _ _ n n (lower x y before left h) (lower (x + half) y)) (lower x (y + half))) (lower (x + half) (y + half))
 
-    go : (a b c : Bool) → Lower → IsShort (4 * n + 136001) (cond a (no_walk before left) (cond b split (cond c (walk_on (flag false) (coding_unit_walk kind source before left)) (walk_on (flag true) split))))
+    go : (a b c : Bool) → Lower → IsShort (4 * n + 136001) (cond a (no_walk before left) (cond b split (cond c (walk_on (flag false) (coding_unit_walk (leaf_units kind source) before left)) (walk_on (flag true) split))))
     go true b c lower = none_short _ before left h
     go false true c lower = shorter split (n + n + n + n) _ (omega arith) (split_short lower)
     go false false true lower = shorter _ (1 + 136000) _ (omega arith) (short_on (flag false) _ 1 136000 (omega arith) (unit_short kind source before left is h))
     go false false false lower = shorter _ (1 + (n + n + n + n)) _ (omega arith) (short_on (flag true) _ 1 (n + n + n + n) (omega arith) (split_short lower))
 
-length_ctu : (kind : SliceKind) (size : Size) (source : Source) (leaves : List (List Leaf)) (ctu : ℕ) → IsSource source → AllHaveSides leaves → length (ctu_with_flag kind size source leaves ctu) ≤ 2900000
+length_ctu : (kind : SliceKind) (size : Size) (source : Source) (leaves : List (List Leaf)) (ctu : ℕ) → IsSource source → AllHaveSides leaves → length (ctu_with_flag (leaf_units kind source) size (is_last size) leaves ctu) ≤ 2900000
 unfolding ctu_items most_items
 length_ctu kind size source leaves ctu is sides =
-    let list : List Item = ctu_items kind size source (joined (take ctu leaves)) (get_or leaves ctu []) ctu in
+    let list : List Item = ctu_items (leaf_units kind source) size (joined (take ctu leaves)) (get_or leaves ctu []) ctu in
     let short : length list ≤ 2856005 = (tree_short kind size source 2 (ctu_x size ctu) (ctu_y size ctu) (joined (take ctu leaves)) (get_or leaves ctu []) is (sides ctu)).short in
     omega (arith, length-append list (terminate_bin (is_last size ctu) ∷ []))
 
 length_ctus : (kind : SliceKind) (size : Size) (source : Source) (leaves : List (List Leaf)) (base first n : ℕ) → IsSource source → AllHaveSides leaves
-    → length (flat_map (λ i. ctu_with_flag kind size source leaves (base + i)) (range_with_len first n)) ≤ n * 2900000
+    → length (flat_map (λ i. ctu_with_flag (leaf_units kind source) size (is_last size) leaves (base + i)) (range_with_len first n)) ≤ n * 2900000
 length_ctus kind size source leaves base first zero is sides = omega arith
 length_ctus kind size source leaves base first (suc n) is sides =
     omega (
       arith,
-      length-append (ctu_with_flag kind size source leaves (base + first)) (flat_map (λ i. ctu_with_flag kind size source leaves (base + i)) (range_with_len (first + 1) n)),
+      length-append (ctu_with_flag (leaf_units kind source) size (is_last size) leaves (base + first)) (flat_map (λ i. ctu_with_flag (leaf_units kind source) size (is_last size) leaves (base + i)) (range_with_len (first + 1) n)),
       length_ctu kind size source leaves (base + first) is sides,
       length_ctus kind size source leaves base (first + 1) n is sides,
     )
 
 pub length_row : (kind : SliceKind) (size : Size) (source : Source) (leaves : List (List Leaf)) (row : ℕ) → IsSource source → AllHaveSides leaves → ctus size.w ≤ 128
-    → length (items_of_row kind size source leaves row) ≤ 371200001
+    → length (items_of_row (leaf_units kind source) size leaves row) ≤ 371200001
 unfolding items_of_row
 length_row kind size source leaves row is sides few = go (row + 1 == ctus size.h)
   where
     list : List Item
-    list = ctus_items kind size source leaves row (ctus size.w)
+    list = ctus_items (leaf_units kind source) size (is_last size) leaves row (ctus size.w)
 
     many : length list ≤ ctus size.w * 2900000
     many = length_ctus kind size source leaves (row * ctus size.w) 0 (ctus size.w) is sides
@@ -522,6 +522,6 @@ length_row kind size source leaves row is sides few = go (row + 1 == ctus size.h
 
 -- what stands in an entry point
 pub entry_fits : (kind : SliceKind) (size : Size) (source : Source) (leaves : List (List Leaf)) (row : ℕ) (contexts : List ℕ) → IsSource source → AllHaveSides leaves → ctus size.w ≤ 128
-    → length (escape (code (items_of_row kind size source leaves row) contexts)) < 2 ^ 32
+    → length (escape (code (items_of_row (leaf_units kind source) size leaves row) contexts)) < 2 ^ 32
 entry_fits kind size source leaves row contexts is sides few =
-    omega (arith, escape_length 255 255 (code (items_of_row kind size source leaves row) contexts), code_length (items_of_row kind size source leaves row) contexts, length_row kind size source leaves row is sides few)
+    omega (arith, escape_length 255 255 (code (items_of_row (leaf_units kind source) size leaves row) contexts), code_length (items_of_row (leaf_units kind source) size leaves row) contexts, length_row kind size source leaves row is sides few)

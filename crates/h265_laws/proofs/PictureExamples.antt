@@ -6,7 +6,7 @@ use Rattle.h265_model.specs.declared.leaf.SliceKind.TheVariants.{I, P}
 use Rattle.h265_model.specs.declared.leaf.Leaf.{Leaf}
 use Rattle.h265_model.specs.declared.leaf.Kind.{Kind}
 use Rattle.h265_model.specs.declared.leaf.Kind.TheVariants.{Skip, Pcm, Intra}
-use Rattle.h265_model.specs.Plain.{Size, Picture, joined}
+use Rattle.h265_model.specs.Plain.{block_at, Size, Picture, joined}
 use Rattle.h265_model.specs.Contexts.{start, lps_range, next}
 use Rattle.h265_model.specs.Engine as Engine
 use Rattle.h265_model.specs.Engine.{doublings, renormalised, bin, context_read, bypass_read, terminate_read, aligned, samples, is_done}
@@ -14,7 +14,7 @@ use Rattle.h265_model.specs.Code.{code, closing, put_bin}
 use Rattle.h265_model.specs.Residual.{scan, scan_kind, residual_items, residual_read, cbf, in_coding_order, in_rows, last_context, sig_context, sub_block_context, greater1_context, greater2_context}
 use Rattle.h265_model.specs.Modes.{candidates, mode_items, mode_read}
 use Rattle.h265_model.specs.Predict.{coding_order, neighbours, is_filtered, references, angle, inverse_angle, predict}
-use Rattle.h265_model.specs.Tree.{split_context, skip_context, candidates_at, coding_unit_items, ctu_items, source_of, items_of_row, row_items, coding_unit_read, ctu_read, ReadCtu}
+use Rattle.h265_model.specs.Tree.{leaf_units, split_context, skip_context, candidates_at, coding_unit_items, ctu_items, source_of, items_of_row, row_items, coding_unit_read, ctu_read, ReadCtu}
 use Rattle.h265_model.specs.Slice.{slice_row_read}
 use Rattle.h265_model.specs.Motion.{vector_before, merge, predictors, has_source}
 use Rattle.h265_model.specs.Rebuild.{moved_samples, block_of, rebuild}
@@ -29,7 +29,7 @@ abbrev grey : Picture
 grey component x y = 128
 
 abbrev leaf : ℕ → ℕ → ℕ → Kind → Leaf
-leaf x y log2 kind = record { x = x; y = y; log2 = log2; kind = kind }
+leaf x y log2 kind = record { block = block_at x y log2; kind = kind }
 
 pub grey_choice : choice None grey (size_of 8 8) 1 0 ≡ leaf 0 0 3 (Intra 1) ∷ []
 unfolding choice leaf_plan intra_cost pcm_cost is_copy modes_of predict references is_filtered neighbours coding_order angle inverse_angle u digits_up_to value_after read_u read_alignment
@@ -62,7 +62,7 @@ pub slanted_choice : choice None slanted (size_of 16 8) 2 0 ≡ leaf 0 0 3 Pcm �
 unfolding choice leaf_plan intra_cost pcm_cost is_copy modes_of predict references is_filtered neighbours coding_order angle inverse_angle u digits_up_to value_after read_u read_alignment
 slanted_choice = refl
 
-pub slanted_cost : leaf_plan None slanted (size_of 16 8) 2 8 0 3 ≡ record { cost = 8; leaves = leaf 8 0 3 (Intra 2) ∷ [] }
+pub slanted_cost : leaf_plan None slanted (size_of 16 8) 2 (block_at 8 0 3) ≡ record { cost = 8; leaves = leaf 8 0 3 (Intra 2) ∷ [] }
 unfolding choice leaf_plan intra_cost pcm_cost is_copy modes_of predict references is_filtered neighbours coding_order angle inverse_angle u digits_up_to value_after read_u read_alignment
 slanted_cost = refl
 

@@ -116,11 +116,11 @@ fair_joined prev now size effort a (suc n) =
     all_append (IsFair prev now) (choice prev now size effort a) (joined (map (choice prev now size effort) (range_with_len (a + 1) n))) (choice_is_fair prev now size effort a) (fair_joined prev now size effort (a + 1) n)
 
 -- a copy of a picture is one of the picture that its planes store
-copy_same : (size : Size) (prev : Picture) (leaf : Leaf) (c : ℕ) → c < 3 → leaf.x + leaf_side leaf ≤ coded size.w → leaf.y + leaf_side leaf ≤ coded size.h
+copy_same : (size : Size) (prev : Picture) (leaf : Leaf) (c : ℕ) → c < 3 → leaf.block.x + leaf_side leaf ≤ coded size.w → leaf.block.y + leaf_side leaf ≤ coded size.h
     → samples_in (stored_picture size (planes size prev)) leaf c ≡ samples_in prev leaf c
 copy_same size prev leaf c h right bottom =
-    same_places (leaf_side leaf) (leaf_side leaf) (λ x y. stored_picture size (planes size prev) c (leaf.x + x) (leaf.y + y)) (λ x y. prev c (leaf.x + x) (leaf.y + y))
-    (λ x y hx hy. stored_is size prev c (leaf.x + x) (leaf.y + y) h (under leaf.x x (leaf_side leaf) (coded size.w) hx right) (under leaf.y y (leaf_side leaf) (coded size.h) hy bottom))
+    same_places (leaf_side leaf) (leaf_side leaf) (λ x y. stored_picture size (planes size prev) c (leaf.block.x + x) (leaf.block.y + y)) (λ x y. prev c (leaf.block.x + x) (leaf.block.y + y))
+    (λ x y hx hy. stored_is size prev c (leaf.block.x + x) (leaf.block.y + y) h (under leaf.block.x x (leaf_side leaf) (coded size.w) hx right) (under leaf.block.y y (leaf_side leaf) (coded size.h) hy bottom))
   where
     under : (a x n w : ℕ) → x < n → a + n ≤ w → a + x < w
     under a x n w h k = omega arith

@@ -5,7 +5,7 @@ use Rattle.std.specs.List.{AllByRecursion, range_with_len}
 use Rattle.std.proofs.lemmas.Nat.{mul-le, div_below}
 use Rattle.std.proofs.lemmas.Int.{ints}
 use Rattle.std.proofs.lemmas.List.Sums.{sum_by-cons}
-use Rattle.h265_model.specs.Plain.{Size, Picture, IsPicture}
+use Rattle.h265_model.specs.Plain.{block_at, Size, Picture, IsPicture}
 use Rattle.h265_model.specs.Contexts.{clip}
 use Rattle.h265_model.specs.Predict.{seen, neighbours, first_seen, filled, substituted, smoothed_after, smoothed, is_filtered, references, across, down, planar, has_edges, mean, dc_edge, dc, angle, inverse_angle, along, fraction, between, directed, straight_edge, is_straight, angular_from, angular, predicted, predict, prediction, is_available}
 use Rattle.h265_model.specs.Residual.{AreLevels}
@@ -34,9 +34,10 @@ all_of : {A : Type 0} (T : A → Type 0) (a n : ℕ) (f : ℕ → A) → ((i : �
 all_of T a zero f h = tt
 all_of T a (suc n) f h = (h a, all_of T (a + 1) n f h)
 
-neighbours_are : (size : Size) (picture : Picture) (component x y n : ℕ) → IsPicture picture → AreSeen (neighbours size picture component x y n)
+neighbours_are : (size : Size) (picture : Picture) (component x y log2 : ℕ) → IsPicture picture → AreSeen (neighbours size picture component (block_at x y log2))
 unfolding neighbours
-neighbours_are size picture component x y n is =
+neighbours_are size picture component x y log2 is =
+    let n : ℕ = 2 ^ log2 in
     all_of (λ o. MatchOption o (Unit {0}) (λ v. v < 256)) 0 (4 * n + 1) (λ i. seen size picture component x y (x + (i - 2 * n)) (y + (2 * n - i)))
     (λ i. seen_is size picture component x y (x + (i - 2 * n)) (y + (2 * n - i)) is)
 
@@ -62,15 +63,15 @@ smoothed_are : (line : List ℕ) → AreSamples line → AreSamples (smoothed li
 smoothed_are [] h = tt
 smoothed_are (first ∷ line) h = (h.0, smoothed_after_are first line h.0 h.1)
 
-references_are : (size : Size) (picture : Picture) (mode component x y log2 : ℕ) → IsPicture picture → AreSamples (references size picture mode component x y log2)
+references_are : (size : Size) (picture : Picture) (mode component x y log2 : ℕ) → IsPicture picture → AreSamples (references size picture mode component (block_at x y log2))
 unfolding references
 references_are size picture mode component x y log2 is = go (is_filtered mode log2)
   where
     line : List ℕ
-    line = substituted (neighbours size picture component x y (2 ^ log2))
+    line = substituted (neighbours size picture component (block_at x y log2))
 
     line_are : AreSamples line
-    line_are = let n : AreSeen (neighbours size picture component x y (2 ^ log2)) = neighbours_are size picture component x y (2 ^ log2) is in filled_are _ _ (first_is _ n) n
+    line_are = let n : AreSeen (neighbours size picture component (block_at x y log2)) = neighbours_are size picture component x y log2 is in filled_are _ _ (first_is _ n) n
 
     go : (b : Bool) → AreSamples (cond b (smoothed line) line)
     go true = smoothed_are line line_are
@@ -202,11 +203,11 @@ predicted_is (suc zero) component log2 x y refs h hx hy = dc_is component log2 x
 predicted_is (suc (suc m)) component log2 x y refs h hx hy = angular_is (suc (suc m)) component log2 x y refs h
 
 -- predictions are samples
-pub prediction_is : (size : Size) (picture : Picture) (mode component x y log2 : ℕ) → IsPicture picture → AllByRecursion (λ v. v < 256) (prediction size picture mode component x y log2)
+pub prediction_is : (size : Size) (picture : Picture) (mode component x y log2 : ℕ) → IsPicture picture → AllByRecursion (λ v. v < 256) (prediction size picture mode component (block_at x y log2))
 unfolding predict
 prediction_is size picture mode component x y log2 is =
-    all_places (λ v. v < 256) (2 ^ log2) (2 ^ log2) (predicted mode component log2 (references size picture mode component x y log2))
-    (λ u v hu hv. predicted_is mode component log2 u v (references size picture mode component x y log2) (references_are size picture mode component x y log2 is) hu hv)
+    all_places (λ v. v < 256) (2 ^ log2) (2 ^ log2) (predicted mode component log2 (references size picture mode component (block_at x y log2)))
+    (λ u v hu hv. predicted_is mode component log2 u v (references size picture mode component (block_at x y log2)) (references_are size picture mode component x y log2 is) hu hv)
 
 -- ---- levels
 
@@ -229,11 +230,11 @@ pub source_is : (size : Size) (picture : Picture) → IsPicture picture → IsSo
 unfolding source_of
 source_is size picture is = record {
   levels_long = λ leaf component.
-      length_differences (samples_in picture leaf component) (prediction size picture (mode_of leaf.kind) component leaf.x leaf.y leaf.log2) (2 ^ leaf.log2 * 2 ^ leaf.log2)
-      (length_samples picture leaf component) (length_prediction size picture (mode_of leaf.kind) component leaf.x leaf.y leaf.log2);
+      length_differences (samples_in picture leaf component) (prediction size picture (mode_of leaf.kind) component leaf.block) (2 ^ leaf.block.log2 * 2 ^ leaf.block.log2)
+      (length_samples picture leaf component) (length_prediction size picture (mode_of leaf.kind) component leaf.block.x leaf.block.y leaf.block.log2);
   levels_fit = λ leaf component.
-      differences_are (samples_in picture leaf component) (prediction size picture (mode_of leaf.kind) component leaf.x leaf.y leaf.log2)
-      (samples_are picture leaf component is) (prediction_is size picture (mode_of leaf.kind) component leaf.x leaf.y leaf.log2 is);
+      differences_are (samples_in picture leaf component) (prediction size picture (mode_of leaf.kind) component leaf.block)
+      (samples_are picture leaf component is) (prediction_is size picture (mode_of leaf.kind) component leaf.block.x leaf.block.y leaf.block.log2 is);
   samples_long = λ leaf component. length_samples picture leaf component;
   samples_fit = λ leaf component. samples_are picture leaf component is;
 }

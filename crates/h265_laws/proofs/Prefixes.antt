@@ -1,7 +1,7 @@
 -- Pieces of a list of pictures begin those of a longer list.
 use Rattle.std.proofs.Common.{false, ◌≡◌, ℕ, ◌+◌, List, [], ◌∷◌, ◌++◌, length, Option, Some, None, refl, sym, ◌∙◌, ap, arith}
 use Rattle.std.specs.List.{last_or}
-use Rattle.h265_model.specs.Settings.{Settings}
+use Rattle.h265_model.specs.Settings.{Settings, has_segments}
 use Rattle.h265_model.specs.Raster.{Raster}
 use Rattle.h265_model.specs.NalUnits.{stream_bytes}
 use Rattle.h265_model.specs.ParamSets.{param_units}
@@ -19,7 +19,7 @@ pub prefixes : EachPrefixIsKept
 unfolding pieces
 prefixes settings ps qs =
     let others = pieces_after-split settings 0 None ps qs in
-    (others.0, ap (λ l. stream_bytes (param_units settings.size false) ∷ l) others.1)
+    (others.0, ap (λ l. stream_bytes (param_units settings.size (has_segments settings.extra)) ∷ l) others.1)
 
 -- ---- one picture more
 
@@ -41,6 +41,6 @@ pub pieces-append : (settings : Settings) (ps : List Raster) (now : Raster) →
 unfolding pieces
 pieces-append settings ps now =
     let e : 0 + length ps ≡ length ps = omega arith in
-    ap (λ (l : List (List ℕ)). stream_bytes (param_units settings.size false) ∷ l)
+    ap (λ (l : List (List ℕ)). stream_bytes (param_units settings.size (has_segments settings.extra)) ∷ l)
     (pieces_after-append settings 0 None ps now
     ∙ ap (λ (m : ℕ). pieces_after settings 0 None ps ++ picture_piece settings m (last_or None ps) now ∷ []) e)

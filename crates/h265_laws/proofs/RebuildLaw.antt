@@ -7,7 +7,7 @@ use Rattle.std.proofs.lemmas.List.Folds.{list_any-append}
 use Rattle.h265_model.specs.declared.leaf.Leaf.{Leaf}
 use Rattle.h265_model.specs.declared.leaf.Kind.{Kind}
 use Rattle.h265_model.specs.declared.leaf.Kind.TheVariants.{Skip, Pcm, Intra}
-use Rattle.h265_model.specs.Plain.{Size, Picture, coded, ctus, IsPicture}
+use Rattle.h265_model.specs.Plain.{block_at, Size, Picture, coded, ctus, IsPicture}
 use Rattle.h265_model.specs.Contexts.{clip}
 use Rattle.h265_model.specs.Raster.{plane, planes, blank}
 use Rattle.std.proofs.lemmas.Nat.{row_fits_turned}
@@ -41,11 +41,11 @@ seen_same size a b component x y (suc px) (suc py) h = go (is_available size x y
 
 -- predictions of pictures that have the same samples where these are available
 pub prediction_same : (size : Size) (a b : Picture) (mode component x y log2 : ℕ) → ((qx qy : ℕ) → is_available size x y qx qy ≡ true → a component qx qy ≡ b component qx qy)
-    → prediction size a mode component x y log2 ≡ prediction size b mode component x y log2
+    → prediction size a mode component (block_at x y log2) ≡ prediction size b mode component (block_at x y log2)
 unfolding references neighbours
 prediction_same size a b mode component x y log2 h =
     let n : ℕ = 2 ^ log2 in
-    let line : neighbours size a component x y n ≡ neighbours size b component x y n =
+    let line : neighbours size a component (block_at x y log2) ≡ neighbours size b component (block_at x y log2) =
     same_below (4 * n + 1) (λ i. seen size a component x y (x + (i - 2 * n)) (y + (2 * n - i))) (λ i. seen size b component x y (x + (i - 2 * n)) (y + (2 * n - i)))
     (λ i k. seen_same size a b component x y (x + (i - 2 * n)) (y + (2 * n - i)) h) in
     ap (λ (l : List (Option ℕ)). predict mode component log2 (cond (is_filtered mode log2) (smoothed (substituted l)) (substituted l))) line
@@ -67,15 +67,15 @@ sums_back (p ∷ ps) (s ∷ ss) e h =
     ∙ (ap (λ (v : ℕ). v ∷ sums ps (differences ss ps)) (clipped s h.0)
     ∙ ap (λ (l : List ℕ). s ∷ l) (sums_back ps ss (omega arith) h.1))
 
-pub length_prediction : (size : Size) (picture : Picture) (mode component x y log2 : ℕ) → length (prediction size picture mode component x y log2) ≡ 2 ^ log2 * 2 ^ log2
+pub length_prediction : (size : Size) (picture : Picture) (mode component x y log2 : ℕ) → length (prediction size picture mode component (block_at x y log2)) ≡ 2 ^ log2 * 2 ^ log2
 unfolding predict
-length_prediction size picture mode component x y log2 = length_places (2 ^ log2) (2 ^ log2) (predicted mode component log2 (references size picture mode component x y log2))
+length_prediction size picture mode component x y log2 = length_places (2 ^ log2) (2 ^ log2) (predicted mode component log2 (references size picture mode component (block_at x y log2)))
 
-pub length_samples : (picture : Picture) (leaf : Leaf) (component : ℕ) → length (samples_in picture leaf component) ≡ 2 ^ leaf.log2 * 2 ^ leaf.log2
-length_samples picture leaf component = length_places (leaf_side leaf) (leaf_side leaf) (λ x y. picture component (leaf.x + x) (leaf.y + y))
+pub length_samples : (picture : Picture) (leaf : Leaf) (component : ℕ) → length (samples_in picture leaf component) ≡ 2 ^ leaf.block.log2 * 2 ^ leaf.block.log2
+length_samples picture leaf component = length_places (leaf_side leaf) (leaf_side leaf) (λ x y. picture component (leaf.block.x + x) (leaf.block.y + y))
 
 pub samples_are : (picture : Picture) (leaf : Leaf) (component : ℕ) → IsPicture picture → AllByRecursion (λ s. s < 256) (samples_in picture leaf component)
-samples_are picture leaf component is = all_places (λ s. s < 256) (leaf_side leaf) (leaf_side leaf) (λ x y. picture component (leaf.x + x) (leaf.y + y)) (λ x y hx hy. is.each component (leaf.x + x) (leaf.y + y))
+samples_are picture leaf component is = all_places (λ s. s < 256) (leaf_side leaf) (leaf_side leaf) (λ x y. picture component (leaf.block.x + x) (leaf.block.y + y)) (λ x y hx hy. is.each component (leaf.block.x + x) (leaf.block.y + y))
 
 -- ---- one leaf
 
@@ -87,7 +87,7 @@ third_of f (suc (suc (suc n))) d h = absurd (omega arith)
 
 -- the block that is laid in is the picture's
 pub block_back : (size : Size) (prev now cur : Picture) (leaf : Leaf) (component : ℕ) → component < 3 → IsPicture now → IsCopy prev now leaf
-    → ((qx qy : ℕ) → is_available size leaf.x leaf.y qx qy ≡ true → cur component qx qy ≡ now component qx qy)
+    → ((qx qy : ℕ) → is_available size leaf.block.x leaf.block.y qx qy ≡ true → cur component qx qy ≡ now component qx qy)
     → block_of size prev cur leaf (content_of (source_of size now) leaf leaf.kind) component ≡ samples_in now leaf component
 unfolding block_of source_of
 block_back size prev now cur leaf component small is copy near = go leaf.kind refl
@@ -97,27 +97,27 @@ block_back size prev now cur leaf component small is copy near = go leaf.kind re
     go Pcm e = third_of (λ c. samples_in now leaf c) component [] small
     go (Intra mode) e =
         let m : mode_of leaf.kind ≡ mode = ap mode_of e in
-        let p : List ℕ = prediction size now mode component leaf.x leaf.y leaf.log2 in
+        let p : List ℕ = prediction size now mode component leaf.block in
         let levels : get_or (levels_in size now leaf 0 ∷ levels_in size now leaf 1 ∷ levels_in size now leaf 2 ∷ []) component [] ≡ differences (samples_in now leaf component) p =
-        third_of (λ c. levels_in size now leaf c) component [] small ∙ ap (λ (i : ℕ). differences (samples_in now leaf component) (prediction size now i component leaf.x leaf.y leaf.log2)) m in
-        ap (λ (l : List ℤ). sums (prediction size cur mode component leaf.x leaf.y leaf.log2) l) levels
-        ∙ (ap (λ (l : List ℕ). sums l (differences (samples_in now leaf component) p)) (prediction_same size cur now mode component leaf.x leaf.y leaf.log2 near)
-        ∙ sums_back p (samples_in now leaf component) (length_prediction size now mode component leaf.x leaf.y leaf.log2 ∙ sym (length_samples now leaf component)) (samples_are now leaf component is))
+        third_of (λ c. levels_in size now leaf c) component [] small ∙ ap (λ (i : ℕ). differences (samples_in now leaf component) (prediction size now i component leaf.block)) m in
+        ap (λ (l : List ℤ). sums (prediction size cur mode component leaf.block) l) levels
+        ∙ (ap (λ (l : List ℕ). sums l (differences (samples_in now leaf component) p)) (prediction_same size cur now mode component leaf.block.x leaf.block.y leaf.block.log2 near)
+        ∙ sums_back p (samples_in now leaf component) (length_prediction size now mode component leaf.block.x leaf.block.y leaf.block.log2 ∙ sym (length_samples now leaf component)) (samples_are now leaf component is))
 
 -- a sample of the block
 pub at_samples : (now : Picture) (leaf : Leaf) (component x y : ℕ) → covers x y leaf ≡ true
-    → get_or (samples_in now leaf component) ((y - leaf.y) * leaf_side leaf + (x - leaf.x)) 0 ≡ now component x y
+    → get_or (samples_in now leaf component) ((y - leaf.block.y) * leaf_side leaf + (x - leaf.block.x)) 0 ≡ now component x y
 at_samples now leaf component x y h =
-    let w : IsWithin leaf.x leaf.y (leaf_side leaf) x y = covers_parts leaf x y h in
-    let left : leaf.x ≤ x = w.left in
-    let right : x < leaf.x + leaf_side leaf = w.right in
-    let top : leaf.y ≤ y = w.top in
-    let bottom : y < leaf.y + leaf_side leaf = w.bottom in
-    let ex : leaf.x + (x - leaf.x) ≡ x = back leaf.x x left in
-    let ey : leaf.y + (y - leaf.y) ≡ y = back leaf.y y top in
-    at_places (leaf_side leaf) (leaf_side leaf) (x - leaf.x) (y - leaf.y) (λ u v. now component (leaf.x + u) (leaf.y + v)) 0
-    (less leaf.x x (leaf_side leaf) left right) (less leaf.y y (leaf_side leaf) top bottom)
-    ∙ (ap (λ (u : ℕ). now component u (leaf.y + (y - leaf.y))) ex ∙ ap (λ (v : ℕ). now component x v) ey)
+    let w : IsWithin leaf.block.x leaf.block.y (leaf_side leaf) x y = covers_parts leaf x y h in
+    let left : leaf.block.x ≤ x = w.left in
+    let right : x < leaf.block.x + leaf_side leaf = w.right in
+    let top : leaf.block.y ≤ y = w.top in
+    let bottom : y < leaf.block.y + leaf_side leaf = w.bottom in
+    let ex : leaf.block.x + (x - leaf.block.x) ≡ x = back leaf.block.x x left in
+    let ey : leaf.block.y + (y - leaf.block.y) ≡ y = back leaf.block.y y top in
+    at_places (leaf_side leaf) (leaf_side leaf) (x - leaf.block.x) (y - leaf.block.y) (λ u v. now component (leaf.block.x + u) (leaf.block.y + v)) 0
+    (less leaf.block.x x (leaf_side leaf) left right) (less leaf.block.y y (leaf_side leaf) top bottom)
+    ∙ (ap (λ (u : ℕ). now component u (leaf.block.y + (y - leaf.block.y))) ex ∙ ap (λ (v : ℕ). now component x v) ey)
   where
     back : (a b : ℕ) → a ≤ b → a + (b - a) ≡ b
     back a b h = omega arith
@@ -130,7 +130,7 @@ one_rebuilt_at : (size : Size) (prev now cur : Picture) (before : List Leaf) (le
     → with_block cur leaf (block_of size prev cur leaf (content_of (source_of size now) leaf leaf.kind)) component x y ≡ now component x y
 one_rebuilt_at size prev now cur before leaf is copy placed agree component x y small covered = go (covers x y leaf) refl
   where
-    near : (qx qy : ℕ) → is_available size leaf.x leaf.y qx qy ≡ true → cur component qx qy ≡ now component qx qy
+    near : (qx qy : ℕ) → is_available size leaf.block.x leaf.block.y qx qy ≡ true → cur component qx qy ≡ now component qx qy
     near qx qy h = let p = and_parts _ _ h in agree.each component qx qy small (placed.behind.each qx qy p.0 (ltb-true _ _ p.1))
 
     block : ℕ → List ℕ
@@ -140,8 +140,8 @@ one_rebuilt_at size prev now cur before leaf is copy placed agree component x y 
     earlier true e h = absurd (cc)
     earlier false e h = ⊎_elim (λ k. k) (λ k. absurd (cc)) (or_cases (is_covered before x y) false h)
 
-    go : (t : Bool) → covers x y leaf ≡ t → cond t (get_or (block component) ((y - leaf.y) * leaf_side leaf + (x - leaf.x)) 0) (cur component x y) ≡ now component x y
-    go true e = ap (λ (l : List ℕ). get_or l ((y - leaf.y) * leaf_side leaf + (x - leaf.x)) 0) (block_back size prev now cur leaf component small is copy near) ∙ at_samples now leaf component x y e
+    go : (t : Bool) → covers x y leaf ≡ t → cond t (get_or (block component) ((y - leaf.block.y) * leaf_side leaf + (x - leaf.block.x)) 0) (cur component x y) ≡ now component x y
+    go true e = ap (λ (l : List ℕ). get_or l ((y - leaf.block.y) * leaf_side leaf + (x - leaf.block.x)) 0) (block_back size prev now cur leaf component small is copy near) ∙ at_samples now leaf component x y e
     go false e = agree.each component x y small (earlier (covers x y leaf) e (sym (list_any-append (covers x y) before (leaf ∷ [])) ∙ covered))
 
 one_rebuilt : (size : Size) (prev now cur : Picture) (before : List Leaf) (leaf : Leaf) → IsPicture now → IsCopy prev now leaf → IsPlaced size before leaf → Agree cur now before

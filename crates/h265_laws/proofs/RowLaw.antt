@@ -11,7 +11,7 @@ use Rattle.h265_model.specs.Engine.{Engine, Part, parts_of, Gives, Reader, ◌>>
 use Rattle.std.specs.Bool.{beq}
 use Rattle.h265_model.specs.Code.{contexts_after, put_bin}
 use Rattle.h265_laws.proofs.TreeLaw.{ctu_law, after_is, tree_modes}
-use Rattle.h265_model.specs.Tree.{IsMode, Source, expect, contexts_read, ctu_items, ctu_with_flag, is_last, items_of_row, IsSource, AreModes, AreLawfulTrees}
+use Rattle.h265_model.specs.Tree.{leaf_units, IsMode, Source, expect, contexts_read, ctu_items, ctu_with_flag, is_last, items_of_row, IsSource, AreModes, AreLawfulTrees}
 use Rattle.h265_laws.proofs.LeafReading.{ReadLeaf, ReadCtu, leaves_after, ctu_read, ctus_read, read_row, reads_of, values_from}
 use Rattle.h265_laws.proofs.Parts.{BeginsWithBin, parts_of-append, GivesBoth, gives_both, named_contexts}
 use Rattle.h265_model.specs.Bits.{◌>>=◌ as and_then}
@@ -79,7 +79,7 @@ lawful_modes kind size leaves total (suc n) h are =
 -- the items of n coding tree units from this one on, and what is read of them
 abbrev pub items_from : SliceKind → Size → Source → List (List Leaf) → ℕ → ℕ → List Item
 items_from kind size source leaves ctu zero = []
-items_from kind size source leaves ctu (suc n) = ctu_with_flag kind size source leaves ctu ++ items_from kind size source leaves (suc ctu) n
+items_from kind size source leaves ctu (suc n) = ctu_with_flag (leaf_units kind source) size (is_last size) leaves ctu ++ items_from kind size source leaves (suc ctu) n
 
 pub ctus_law : (kind : SliceKind) (size : Size) (source : Source) (leaves : List (List Leaf)) (total ctu n : ℕ) → ctu + n ≤ total → AreLawfulTrees kind size leaves total → IsSource source
     → ReadsWith (ctus_read kind size n ctu (joined (take ctu leaves))) (items_from kind size source leaves ctu n) (values_from kind size source leaves ctu n)
@@ -95,10 +95,10 @@ ctus_law kind size source leaves total ctu (suc n) h are is =
     let later_here : ReadsWith (ctus_read kind size n (suc ctu) (leaves_after before (reads_of source here))) rest (values_from kind size source leaves (suc ctu) n) =
     subst (λ (b : List Leaf). ReadsWith (ctus_read kind size n (suc ctu) b) rest (values_from kind size source leaves (suc ctu) n)) (sym same) later in
     let f : List ReadLeaf → Reader (List ReadCtu) = λ ls. contexts_read >>= λ c. expect Terminate (is_last size ctu) (ctus_read kind size n (suc ctu) (leaves_after before ls) >>= λ others. give (made ls c others)) in
-    let first : Reads (ctu_read kind size before ctu) (ctu_items kind size source before here ctu) (reads_of source here) =
+    let first : Reads (ctu_read kind size before ctu) (ctu_items (leaf_units kind source) size before here ctu) (reads_of source here) =
     ctu_law kind size source ctu before here is (are.tree ctu (omega arith)) (lawful_modes kind size leaves total ctu (omega arith) are) (are.allowed ctu (omega arith)) in
-    with_as (ctus_read kind size (suc n) ctu before) _ _ _ (sym (append_assoc (ctu_items kind size source before here ctu) (terminate_bin (is_last size ctu) ∷ []) rest))
-    (with_bind (ctu_read kind size before ctu) f (ctu_items kind size source before here ctu) (terminate_bin (is_last size ctu) ∷ rest)
+    with_as (ctus_read kind size (suc n) ctu before) _ _ _ (sym (append_assoc (ctu_items (leaf_units kind source) size before here ctu) (terminate_bin (is_last size ctu) ∷ []) rest))
+    (with_bind (ctu_read kind size before ctu) f (ctu_items (leaf_units kind source) size before here ctu) (terminate_bin (is_last size ctu) ∷ rest)
     (λ c. reads_of source here) (λ c d. made (reads_of source here) d (values_from kind size source leaves (suc ctu) n d)) tt (with_any _ _ _ first)
     (λ c. with_contexts _ _ (λ d d'. made (reads_of source here) d (values_from kind size source leaves (suc ctu) n d'))
     (λ d. with_expect (is_last size ctu) _ rest _ (with_map (ctus_read kind size n (suc ctu) (leaves_after before (reads_of source here))) (made (reads_of source here) d) rest _ later_here))))
@@ -106,15 +106,15 @@ ctus_law kind size source leaves total ctu (suc n) h are is =
 -- ---- the row
 
 pub in_order : (kind : SliceKind) (size : Size) (source : Source) (leaves : List (List Leaf)) (base n first : ℕ)
-    → flat_map (λ i. ctu_with_flag kind size source leaves (base + i)) (range_with_len first n) ≡ items_from kind size source leaves (base + first) n
+    → flat_map (λ i. ctu_with_flag (leaf_units kind source) size (is_last size) leaves (base + i)) (range_with_len first n) ≡ items_from kind size source leaves (base + first) n
 in_order kind size source leaves base zero first = refl
 in_order kind size source leaves base (suc n) first =
     let e : base + (first + 1) ≡ suc (base + first) = omega arith in
-    ap (λ (l : List Item). ctu_with_flag kind size source leaves (base + first) ++ l)
+    ap (λ (l : List Item). ctu_with_flag (leaf_units kind source) size (is_last size) leaves (base + first) ++ l)
     (in_order kind size source leaves base n (first + 1) ∙ ap (λ (k : ℕ). items_from kind size source leaves k n) e)
 
 pub row_law : (kind : SliceKind) (size : Size) (source : Source) (leaves : List (List Leaf)) (row total : ℕ) → row * ctus size.w + ctus size.w ≤ total → AreLawfulTrees kind size leaves total → IsSource source
-    → ReadsWith (read_row kind size row (take (row * ctus size.w) leaves)) (items_of_row kind size source leaves row) (values_from kind size source leaves (row * ctus size.w) (ctus size.w))
+    → ReadsWith (read_row kind size row (take (row * ctus size.w) leaves)) (items_of_row (leaf_units kind source) size leaves row) (values_from kind size source leaves (row * ctus size.w) (ctus size.w))
 unfolding read_row items_of_row
 row_law kind size source leaves row total h are is = go (row + 1 == ctus size.h)
   where
@@ -128,7 +128,7 @@ row_law kind size source leaves row total h are is = go (row + 1 == ctus size.h)
     values = values_from kind size source leaves first wide
 
     front : List Item
-    front = flat_map (λ i. ctu_with_flag kind size source leaves (first + i)) (below wide)
+    front = flat_map (λ i. ctu_with_flag (leaf_units kind source) size (is_last size) leaves (first + i)) (below wide)
 
     read : ReadsWith (ctus_read kind size wide first (joined (take first leaves))) front values
     read = with_as _ _ _ values (sym (in_order kind size source leaves first wide 0 ∙ ap (λ (k : ℕ). items_from kind size source leaves k wide) (add-zero first))) (ctus_law kind size source leaves total first wide h are is)

@@ -10,7 +10,7 @@ use Rattle.std.proofs.lemmas.List.FromFn.{length-map-range_with_len}
 use Rattle.h265_model.specs.declared.leaf.SliceKind.{SliceKind}
 use Rattle.h265_model.specs.declared.leaf.SliceKind.TheVariants.{P}
 use Rattle.h265_model.specs.declared.leaf.Leaf.{Leaf}
-use Rattle.h265_model.specs.Plain.{Size, Picture, ctus, below, joined}
+use Rattle.h265_model.specs.Plain.{block_at, Size, Picture, ctus, below, joined}
 use Rattle.h265_model.specs.Bits.{bytes, ◌>>=◌}
 use Rattle.h265_model.specs.Settings.{Settings}
 use Rattle.h265_model.specs.Raster.{Raster, coded_picture, planes, stored_picture}
@@ -18,12 +18,12 @@ use Rattle.h265_model.specs.NalUnits.{NalUnit, escape, escape_after, start_code,
 use Rattle.h265_model.specs.Fields.{fields_bits}
 use Rattle.h265_model.specs.SliceHead.{Head, head_bits, head_fields, read_head}
 use Rattle.h265_model.specs.Choice.{choice}
-use Rattle.h265_model.specs.Tree.{Source, source_of, AreLawfulTrees, IsCopy}
+use Rattle.h265_model.specs.Tree.{leaf_units, Source, source_of, AreLawfulTrees, IsCopy}
 use Rattle.h265_laws.proofs.LeafReading.{ReadCtu}
 use Rattle.h265_laws.proofs.LeafDecoding.{rebuild}
 use Rattle.h265_model.specs.Slice.{row_code, IsSlice}
 use Rattle.h265_laws.proofs.LeafDecoding.{read_data}
-use Rattle.h265_model.specs.Stream.{is_idr, order_count, slice_kind, nal_header, but_last, reference, all_leaves, row_codes, slice_piece, picture_piece}
+use Rattle.h265_model.specs.Stream.{is_idr, order_count, slice_kind, nal_header, but_last, reference, all_leaves, row_codes, slice_piece}
 use Rattle.h265_model.specs.Decode.{Decoded, ok_of, units_or_number}
 use Rattle.h265_laws.proofs.LeafDecoding.{reference_of, read_slice, follows, read_picture}
 use Rattle.h265_model.specs.Raster.{IsRaster}
@@ -53,7 +53,7 @@ abbrev pub source_in : Settings → Raster → Source
 source_in settings raster = source_of settings.size (picture_of settings raster)
 
 abbrev rows_of : Settings → Bool → Option Raster → Raster → List (List ℕ)
-rows_of settings idr before raster = map (row_code (slice_kind idr) settings.size (source_in settings raster) (leaves_of settings idr before raster)) (below (ctus settings.size.h))
+rows_of settings idr before raster = map (row_code (slice_kind idr) (leaf_units (slice_kind idr) (source_in settings raster)) settings.size (leaves_of settings idr before raster)) (below (ctus settings.size.h))
 
 abbrev head_of : Settings → Bool → ℕ → Option Raster → Raster → Head
 head_of settings idr poc before raster = record { idr = idr; poc = poc; offsets = map length (but_last (map escape (rows_of settings idr before raster))) }
@@ -92,15 +92,15 @@ some_escaped (x ∷ list) some = go (255 == 0 && 255 == 0 && nat_le x 3)
     go false = omega arith
 
 module _ (kind : SliceKind) (size : Size) (source : Source) (leaves : List (List Leaf)) (is : IsSlice kind size source leaves) where
-  row_ends : (row : ℕ) → row < ctus size.h → Ends (row_code kind size source leaves row)
+  row_ends : (row : ℕ) → row < ctus size.h → Ends (row_code kind (leaf_units kind source) size leaves row)
   row_ends row less = code_ends _ _ (row_form kind size source leaves row is.source_is (sides_of kind size source leaves is) is.wide less)
 
-  rows_ends : (a n : ℕ) → a + n ≤ ctus size.h → AllByRecursion Ends (map (row_code kind size source leaves) (range_with_len a n))
+  rows_ends : (a n : ℕ) → a + n ≤ ctus size.h → AllByRecursion Ends (map (row_code kind (leaf_units kind source) size leaves) (range_with_len a n))
   rows_ends a zero h = tt
   rows_ends a (suc n) h = (row_ends a (omega arith), rows_ends (a + 1) n (omega arith))
 
   offsets_are : (a n k : ℕ) → ctus size.w ≤ 128 → a + n ≤ ctus size.h
-      → AllByRecursion (λ o. (0 < o) × (o < 2 ^ 32)) (map length (take k (map escape (map (row_code kind size source leaves) (range_with_len a n)))))
+      → AllByRecursion (λ o. (0 < o) × (o < 2 ^ 32)) (map length (take k (map escape (map (row_code kind (leaf_units kind source) size leaves) (range_with_len a n)))))
   offsets_are a n zero few h = tt
   offsets_are a zero (suc k) few h = tt
   offsets_are a (suc n) (suc k) few h =
@@ -122,7 +122,7 @@ rows_number : (settings : Settings) (idr : Bool) (before : Option Raster) (raste
 rows_number settings idr before raster some =
     let rows : List (List ℕ) = rows_of settings idr before raster in
     let many : length (map escape rows) ≡ ctus settings.size.h =
-    length-map rows escape ∙ length-map-range_with_len (row_code (slice_kind idr) settings.size (source_in settings raster) (leaves_of settings idr before raster)) 0 (ctus settings.size.h) in
+    length-map rows escape ∙ length-map-range_with_len (row_code (slice_kind idr) (leaf_units (slice_kind idr) (source_in settings raster)) settings.size (leaves_of settings idr before raster)) 0 (ctus settings.size.h) in
     let one : length (map escape rows) ≡ suc (ctus settings.size.h - 1) = omega arith in
     ap (λ (n : ℕ). n + 1) (length-map (but_last (map escape rows)) length) ∙ (length_but_last (map escape rows) (ctus settings.size.h - 1) one ∙ many)
 
@@ -277,17 +277,15 @@ pub head_ends : (head : Head) → Ends (bytes (head_bits head))
 unfolding head_bits
 head_ends head = aligned_bits_end (fields_bits (head_fields head))
 
--- a picture's piece is its NAL unit
-pub piece_is_unit : (settings : Settings) (n : ℕ) (before : Option Raster) (raster : Raster) → IsFit settings.size → IsRaster settings.size raster
-    → picture_piece settings n before raster ≡ nal_unit_bytes (picture_unit settings n before raster)
-unfolding picture_piece slice_piece
-piece_is_unit settings n before raster fit is =
-    let idr : Bool = is_idr settings.key n in
-    let poc : ℕ = order_count settings.key n % 256 in
+-- a picture in one slice segment is its NAL unit
+pub piece_is_unit : (settings : Settings) (idr : Bool) (poc : ℕ) (before : Option Raster) (raster : Raster) → IsFit settings.size → IsRaster settings.size raster
+    → slice_piece idr poc (row_codes settings idr (reference idr settings.size before) (picture_of settings raster)) ≡ nal_unit_bytes (unit_with settings idr poc before raster)
+unfolding slice_piece
+piece_is_unit settings idr poc before raster fit is =
     let rows : List (List ℕ) = rows_of settings idr before raster in
     let front : List ℕ = bytes (head_bits (head_of settings idr poc before raster)) in
     let same : row_codes settings idr (reference idr settings.size before) (picture_of settings raster) ≡ map escape rows =
-    map_map (row_code (slice_kind idr) settings.size (source_in settings raster) (leaves_of settings idr before raster)) (below (ctus settings.size.h)) in
+    map_map (row_code (slice_kind idr) (leaf_units (slice_kind idr) (source_in settings raster)) settings.size (leaves_of settings idr before raster)) (below (ctus settings.size.h)) in
     let whole : escape (front ++ flat_map (λ r. r) rows) ≡ escape front ++ flat_map (λ r. r) (map escape rows) =
     escape_append 255 255 front (flat_map (λ r. r) rows) (head_ends (head_of settings idr poc before raster)) ∙ ap (λ (l : List ℕ). escape front ++ l) (escape_rows rows (rows_are settings idr before raster fit is)) in
     ap (λ (es : List (List ℕ)). ((start_code ++ nal_header idr) ++ escape (bytes (head_bits (record { idr = idr; poc = poc; offsets = map length (but_last es) })))) ++ flat_map (λ r. r) es) same
@@ -309,7 +307,7 @@ unit_is settings idr poc before raster fit is = record {
     two_bytes false = (0x02, 1, omega arith, refl)
 
     f : ℕ → List ℕ
-    f = row_code (slice_kind idr) settings.size (source_in settings raster) (leaves_of settings idr before raster)
+    f = row_code (slice_kind idr) (leaf_units (slice_kind idr) (source_in settings raster)) settings.size (leaves_of settings idr before raster)
 
     data_ends : (h : ℕ) → 0 < h → AllByRecursion Ends (map f (below h)) → Ends (flat_map (λ r. r) (map f (below h)))
     data_ends zero some all = absurd (omega arith)

@@ -3,7 +3,7 @@ use Rattle.std.proofs.Common.{◌≡◌, refl, sym, ◌∙◌, ap, subst, ℕ, �
 use Rattle.std.specs.Prelude.{Option, Some, None, slice_index}
 use Rattle.std.specs.List.{last_or}
 use Rattle.h265_model.specs.Slice.{contexts_at}
-use Rattle.h265_model.specs.Tree.{items_of_row}
+use Rattle.h265_model.specs.Tree.{leaf_units, items_of_row}
 use Rattle.h265_laws.specs.Laws.{EachRowIsSubstream}
 use Rattle.h265_laws.proofs.CoverLaw.{sides_of}
 use Rattle.h265_laws.proofs.RowForm.{row_form}
@@ -30,8 +30,8 @@ ends_in (x ∷ list) e =
 pub each_row_is_substream : EachRowIsSubstream
 each_row_is_substream kind size source leaves row is narrow less =
     let sides = sides_of kind size source leaves is in
-    let items = items_of_row kind size source leaves row in
-    let contexts = contexts_at kind size source leaves row in (
+    let items = items_of_row (leaf_units kind source) size leaves row in
+    let contexts = contexts_at kind (leaf_units kind source) size leaves row in (
       ends_in _ (code_ends items contexts (row_form kind size source leaves row is.source_is sides is.wide less)),
       omega (arith, code_length items contexts, length_row kind size source leaves row is.source_is sides narrow),
     )

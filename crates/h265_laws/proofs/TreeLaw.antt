@@ -12,7 +12,7 @@ use Rattle.h265_model.specs.declared.leaf.SliceKind.TheVariants.{I, P}
 use Rattle.h265_model.specs.declared.leaf.Kind.{Kind}
 use Rattle.h265_model.specs.declared.leaf.Kind.TheVariants.{Skip, Pcm, Intra}
 use Rattle.h265_model.specs.declared.leaf.Leaf.{Leaf}
-use Rattle.h265_model.specs.Plain.{Size, context_bin, leaf_with, ctu_x, ctu_y}
+use Rattle.h265_model.specs.Plain.{block_at, Size, context_bin, leaf_with, ctu_x, ctu_y}
 use Rattle.h265_model.specs.Engine.{Engine, bin, samples, Part, Run, sample_first, parts_of, Gives, Reader, ◌>>=◌, give, refuse, Reads}
 use Rattle.h265_model.specs.Residual.{cbf, residual_items, residual_read, IsSide, eight, sixteen, thirty_two, AreLevels}
 use Rattle.h265_model.specs.Binarise.{tr, fl, bypass_bins}
@@ -20,7 +20,7 @@ use Rattle.h265_model.specs.Modes.{mode_items, mode_read, index_items, remainder
 use Rattle.h265_model.proofs.Candidates.{candidates_at_are}
 use Rattle.h265_model.specs.Predict.{square, is_inside}
 use Rattle.h265_model.specs.Tree
-use Rattle.h265_model.specs.Tree.{IsLawfulTree, ctu_items, Walk, walk_on, and_walk, quarters, coding_unit_walk, no_walk, is_whole, is_leaf, tree_walk, IsCodingUnit, AreQuarters, IsTree, IsMode, Source, shape_of, residual_if, content_items, in_P, coding_unit_items, is_skipped, skip_context, split_context, candidates_at, expect, thirds, skip_read, IsSource, AreModes, IsAllowed, AreAllowed}
+use Rattle.h265_model.specs.Tree.{leaf_block, leaf_units, IsLawfulTree, ctu_items, Walk, walk_on, and_walk, quarters, coding_unit_walk, no_walk, is_whole, is_next, tree_walk, IsCodingUnit, AreQuarters, IsTree, IsMode, Source, shape_of, residual_if, content_items, in_P, coding_unit_items, is_skipped, skip_context, split_context, candidates_at, expect, thirds, skip_read, IsSource, AreModes, IsAllowed, AreAllowed}
 use Rattle.h265_laws.proofs.LeafReading.{ctu_read, quarters_read, leaves_after, tree_read, Content, Copied, Samples, Levels, ReadLeaf, kind_of, leaf_of, intra_read, pcm_read, content_read, part_mode_read, coded_read, coding_unit_read, content_of, read_of, reads_of}
 use Rattle.h265_laws.proofs.Parts.{BeginsWithBin}
 use Rattle.h265_laws.proofs.Reading.{reads_as, reads_bin, reads_bind, reads_map, reads_give}
@@ -89,14 +89,14 @@ mode_are mode l = go (mode == get_or l 0 0) (mode == get_or l 1 0) (mode == get_
 -- ---- units
 
 reads_intra : (source : Source) (before : List Leaf) (x y log2 mode : ℕ) → IsSide log2 → IsSource source → AreModes before → mode < 35
-    → (let leaf : Leaf = leaf_with x y log2 (Intra mode) in
-    Reads (intra_read before x y log2)
+    → (let leaf : Leaf = leaf_with (block_at x y log2) (Intra mode) in
+    Reads (intra_read before (block_at x y log2))
     (mode_items mode (candidates_at before x y)
     ++ (context_bin false 10 ∷ context_bin (cbf (source.levels leaf 1)) 12 ∷ context_bin (cbf (source.levels leaf 2)) 12 ∷ context_bin (cbf (source.levels leaf 0)) 11
     ∷ (residual_if log2 mode 0 (source.levels leaf 0) ++ (residual_if log2 mode 1 (source.levels leaf 1) ++ residual_if log2 mode 2 (source.levels leaf 2)))))
     (content_of source leaf (Intra mode)))
 reads_intra source before x y log2 mode side is modes small =
-    let leaf : Leaf = leaf_with x y log2 (Intra mode) in
+    let leaf : Leaf = leaf_with (block_at x y log2) (Intra mode) in
     let l0 : List ℤ = source.levels leaf 0 in
     let l1 : List ℤ = source.levels leaf 1 in
     let l2 : List ℤ = source.levels leaf 2 in
@@ -155,10 +155,10 @@ side_positive _ eight = omega arith
 side_positive _ sixteen = omega arith
 side_positive _ thirty_two = omega arith
 
-reads_pcm : (source : Source) (leaf : Leaf) → IsSide leaf.log2 → IsSource source
-    → Reads (pcm_read (2 ^ leaf.log2 * 2 ^ leaf.log2)) (map items.Sample (source.samples leaf 0 ++ source.samples leaf 1 ++ source.samples leaf 2)) (content_of source leaf Pcm)
+reads_pcm : (source : Source) (leaf : Leaf) → IsSide leaf.block.log2 → IsSource source
+    → Reads (pcm_read (2 ^ leaf.block.log2 * 2 ^ leaf.block.log2)) (map items.Sample (source.samples leaf 0 ++ source.samples leaf 1 ++ source.samples leaf 2)) (content_of source leaf Pcm)
 reads_pcm source leaf side is =
-    let n : ℕ = 2 ^ leaf.log2 * 2 ^ leaf.log2 in
+    let n : ℕ = 2 ^ leaf.block.log2 * 2 ^ leaf.block.log2 in
     let a : List ℕ = source.samples leaf 0 in
     let b : List ℕ = source.samples leaf 1 in
     let c : List ℕ = source.samples leaf 2 in
@@ -166,7 +166,7 @@ reads_pcm source leaf side is =
     let hb : length b ≡ n = is.samples_long leaf 1 in
     let hc : length c ≡ n = is.samples_long leaf 2 in
     let long : length ((a ++ b) ++ c) ≡ n + n + n = length-append (a ++ b) c ∙ omega (arith, length-append a b) in
-    let some : 0 < n = side_positive leaf.log2 side in
+    let some : 0 < n = side_positive leaf.block.log2 side in
     let r : Reads (samples (n + n + n)) (map items.Sample ((a ++ b) ++ c)) ((a ++ b) ++ c) =
     subst (λ (k : ℕ). Reads (samples k) (map items.Sample ((a ++ b) ++ c)) ((a ++ b) ++ c)) long (reads_samples ((a ++ b) ++ c) (omega arith)) in
     reads_as (pcm_read n) _ _ (Samples (thirds n ((a ++ b) ++ c))) _ refl (ap Samples (thirds_of n a b c ha hb hc))
@@ -174,12 +174,12 @@ reads_pcm source leaf side is =
 
 -- pcm_flag and what follows
 pub reads_content : (source : Source) (before : List Leaf) (x y log2 : ℕ) (k : Kind) → IsSide log2 → IsSource source → AreModes before → IsMode k → is_skipped k ≡ false
-    → Reads (content_read before x y log2) (content_items source before (leaf_with x y log2 k) k) (content_of source (leaf_with x y log2 k) k)
+    → Reads (content_read before (block_at x y log2)) (content_items source before (leaf_with (block_at x y log2) k) k) (content_of source (leaf_with (block_at x y log2) k) k)
 reads_content source before x y log2 Skip side is modes mode plain = absurd (cc)
 reads_content source before x y log2 Pcm side is modes mode plain =
-    reads_bin Terminate true (λ pcm. cond pcm (pcm_read (2 ^ log2 * 2 ^ log2)) (intra_read before x y log2)) _ _ (reads_pcm source (leaf_with x y log2 Pcm) side is)
+    reads_bin Terminate true (λ pcm. cond pcm (pcm_read (2 ^ log2 * 2 ^ log2)) (intra_read before (block_at x y log2))) _ _ (reads_pcm source (leaf_with (block_at x y log2) Pcm) side is)
 reads_content source before x y log2 (Intra mode) side is modes small plain =
-    reads_bin Terminate false (λ pcm. cond pcm (pcm_read (2 ^ log2 * 2 ^ log2)) (intra_read before x y log2)) _ _ (reads_intra source before x y log2 mode side is modes small)
+    reads_bin Terminate false (λ pcm. cond pcm (pcm_read (2 ^ log2 * 2 ^ log2)) (intra_read before (block_at x y log2))) _ _ (reads_intra source before x y log2 mode side is modes small)
 
 pub reads_part_mode : (log2 : ℕ) (read : Reader Content) (list : List Item) (c : Content) → Reads read list c
     → Reads (part_mode_read log2 read) (cond (log2 == 3) (context_bin true 8 ∷ []) [] ++ list) c
@@ -191,17 +191,17 @@ reads_part_mode log2 read list c r = go (log2 == 3)
 
 -- the law of units
 pub unit_law : (kind : SliceKind) (source : Source) (before : List Leaf) (x y log2 : ℕ) (k : Kind) → IsSide log2 → IsSource source → AreModes before → IsMode k → IsAllowed kind k
-    → Reads (coding_unit_read kind before x y log2) (coding_unit_items kind source before (leaf_with x y log2 k)) (read_of source (leaf_with x y log2 k) ∷ [])
+    → Reads (coding_unit_read kind before (block_at x y log2)) (coding_unit_items kind source before (leaf_with (block_at x y log2) k)) (read_of source (leaf_with (block_at x y log2) k) ∷ [])
 unfolding coding_unit_read coding_unit_items
 unit_law kind source before x y log2 k side is modes mode allowed = reads_expect (Context 0) true _ _ _ (go kind (is_skipped k) refl allowed)
   where
     leaf : Leaf
-    leaf = leaf_with x y log2 k
+    leaf = leaf_with (block_at x y log2) k
 
     made : Content → List ReadLeaf
-    made c = record { x = x; y = y; log2 = log2; content = c } ∷ []
+    made c = record { block = block_at x y log2; content = c } ∷ []
 
-    coded : (s : SliceKind) → is_skipped k ≡ false → Reads (coded_read s before x y log2) (in_P s (context_bin true 7 ∷ []) ++ (cond (log2 == 3) (context_bin true 8 ∷ []) [] ++ content_items source before leaf k)) (content_of source leaf k)
+    coded : (s : SliceKind) → is_skipped k ≡ false → Reads (coded_read s before (block_at x y log2)) (in_P s (context_bin true 7 ∷ []) ++ (cond (log2 == 3) (context_bin true 8 ∷ []) [] ++ content_items source before leaf k)) (content_of source leaf k)
     coded I plain = reads_part_mode log2 _ _ _ (reads_content source before x y log2 k side is modes mode plain)
     coded P plain = reads_expect (Context 7) true _ _ _ (reads_part_mode log2 _ _ _ (reads_content source before x y log2 k side is modes mode plain))
 
@@ -214,14 +214,14 @@ unit_law kind source before x y log2 k side is modes mode allowed = reads_expect
         skip_case (Intra m) f = absurd (cc)
 
     go : (s : SliceKind) (b : Bool) → is_skipped k ≡ b → IsAllowed s k
-        → Reads (skip_read s before x y >>= λ skipped. (cond skipped (give Copied) (coded_read s before x y log2) >>= λ c. give (made c)))
+        → Reads (skip_read s before x y >>= λ skipped. (cond skipped (give Copied) (coded_read s before (block_at x y log2)) >>= λ c. give (made c)))
         (in_P s (context_bin b (skip_context before x y) ∷ []) ++ cond b [] (in_P s (context_bin true 7 ∷ []) ++ (cond (log2 == 3) (context_bin true 8 ∷ []) [] ++ content_items source before leaf k)))
         (made (content_of source leaf k))
     go I true e a = absurd (cc)
-    go I false e a = let r : Reads (coded_read I before x y log2 >>= λ c. give (made c)) _ (made (content_of source leaf k)) = reads_map (coded_read I before x y log2) made _ _ (coded I e) in record { from = r.from }
+    go I false e a = let r : Reads (coded_read I before (block_at x y log2) >>= λ c. give (made c)) _ (made (content_of source leaf k)) = reads_map (coded_read I before (block_at x y log2)) made _ _ (coded I e) in record { from = r.from }
     go P true e a = reads_bin (Context (skip_context before x y)) true _ [] _
         (let r : Reads (give (made Copied)) [] (made (content_of source leaf k)) = reads_as (give (made Copied)) [] [] _ _ refl (ap made (skipped_content e)) (reads_give (made Copied)) in record { from = r.from })
-    go P false e a = reads_bin (Context (skip_context before x y)) false _ _ _ (reads_map (coded_read P before x y log2) made _ _ (coded P e))
+    go P false e a = reads_bin (Context (skip_context before x y)) false _ _ _ (reads_map (coded_read P before (block_at x y log2)) made _ _ (coded P e))
 
 -- ---- trees
 
@@ -231,7 +231,7 @@ kind_back source leaf Pcm = refl
 kind_back source leaf (Intra mode) = refl
 
 pub leaf_back : (source : Source) (leaf : Leaf) → leaf_of (read_of source leaf) ≡ leaf
-leaf_back source leaf = ap (λ (k : Kind). leaf_with leaf.x leaf.y leaf.log2 k) (kind_back source leaf leaf.kind)
+leaf_back source leaf = ap (λ (k : Kind). leaf_with leaf.block k) (kind_back source leaf leaf.kind)
 
 pub leaves_back : (source : Source) (leaves : List Leaf) → map leaf_of (reads_of source leaves) ≡ leaves
 leaves_back source [] = refl
@@ -250,13 +250,13 @@ begins-append (items.Bin x ∷ a) b ha hb = tt
 begins-append (items.Sample x ∷ a) b ha hb = elim ha [ ]
 
 -- the walk takes these leaves, and the reader reads what it writes
-pub record Takes (walk : List Leaf → List Leaf → Walk) (read : List Leaf → Reader (List ReadLeaf)) (source : Source) (before leaves : List Leaf) : Type 0 where
+pub record Takes (walk : List Leaf → List Leaf → Walk Leaf Leaf) (read : List Leaf → Reader (List ReadLeaf)) (source : Source) (before leaves : List Leaf) : Type 0 where
   pub list : List Item
   pub walks : (rest : List Leaf) → walk before (leaves ++ rest) ≡ record { list = list; before = before ++ leaves; left = rest }
   pub reads : Reads (read before) list (reads_of source leaves)
   pub begins : BeginsWithBin list
 
-takes_quarters : (go : ℕ → ℕ → List Leaf → List Leaf → Walk) (read : ℕ → ℕ → List Leaf → Reader (List ReadLeaf)) (source : Source) (half x y : ℕ) (before a b c d : List Leaf)
+takes_quarters : (go : ℕ → ℕ → List Leaf → List Leaf → Walk Leaf Leaf) (read : ℕ → ℕ → List Leaf → Reader (List ReadLeaf)) (source : Source) (half x y : ℕ) (before a b c d : List Leaf)
     → Takes (go x y) (read x y) source before a
     → Takes (go (x + half) y) (read (x + half) y) source (before ++ a) b
     → Takes (go x (y + half)) (read x (y + half)) source ((before ++ a) ++ b) c
@@ -267,15 +267,15 @@ takes_quarters go read source half x y before a b c d ta tb tc td = record {
   walks = λ rest.
       let w1 : go x y before ((((a ++ b) ++ c) ++ d) ++ rest) ≡ record { list = ta.list; before = before ++ a; left = b ++ (c ++ (d ++ rest)) } =
       ap (go x y before) (append_assoc ((a ++ b) ++ c) d rest ∙ (append_assoc (a ++ b) c (d ++ rest) ∙ append_assoc a b (c ++ (d ++ rest)))) ∙ ta.walks (b ++ (c ++ (d ++ rest))) in
-      let second : Walk → Walk = λ w. and_walk w (go (x + half) y) in
-      let third : Walk → Walk = λ w. and_walk w (go x (y + half)) in
-      let fourth : Walk → Walk = λ w. and_walk w (go (x + half) (y + half)) in
+      let second : Walk Leaf Leaf → Walk Leaf Leaf = λ w. and_walk w (go (x + half) y) in
+      let third : Walk Leaf Leaf → Walk Leaf Leaf = λ w. and_walk w (go x (y + half)) in
+      let fourth : Walk Leaf Leaf → Walk Leaf Leaf = λ w. and_walk w (go (x + half) (y + half)) in
       let end : (((before ++ a) ++ b) ++ c) ++ d ≡ before ++ (((a ++ b) ++ c) ++ d) =
       ap (λ (l : List Leaf). (l ++ c) ++ d) (append_assoc before a b) ∙ (ap (λ (l : List Leaf). l ++ d) (append_assoc before (a ++ b) c) ∙ append_assoc before ((a ++ b) ++ c) d) in
-      ap (λ (w : Walk). fourth (third (second w))) w1
-      ∙ (ap (λ (w : Walk). fourth (third (walk_on ta.list w))) (tb.walks (c ++ (d ++ rest)))
-      ∙ (ap (λ (w : Walk). fourth (walk_on (ta.list ++ tb.list) w)) (tc.walks (d ++ rest))
-      ∙ (ap (λ (w : Walk). walk_on ((ta.list ++ tb.list) ++ tc.list) w) (td.walks rest)
+      ap (λ (w : Walk Leaf Leaf). fourth (third (second w))) w1
+      ∙ (ap (λ (w : Walk Leaf Leaf). fourth (third (walk_on ta.list w))) (tb.walks (c ++ (d ++ rest)))
+      ∙ (ap (λ (w : Walk Leaf Leaf). fourth (walk_on (ta.list ++ tb.list) w)) (tc.walks (d ++ rest))
+      ∙ (ap (λ (w : Walk Leaf Leaf). walk_on ((ta.list ++ tb.list) ++ tc.list) w) (td.walks rest)
       ∙ ap (λ (l : List Leaf). record { list = ((ta.list ++ tb.list) ++ tc.list) ++ td.list; before = l; left = rest }) end)));
   reads =
       let r : List Leaf → List ReadLeaf = reads_of source in
@@ -310,7 +310,7 @@ takes_quarters go read source half x y before a b c d ta tb tc td = record {
 pub tree_modes : (size : Size) (depth x y : ℕ) (leaves : List Leaf) → IsTree size depth x y leaves → AreModes leaves
 tree_modes size zero x y leaves t = go (is_inside size x y) t
   where
-    go : (b : Bool) → MatchBool b (IsCodingUnit x y 3 leaves) (leaves ≡ []) → AreModes leaves
+    go : (b : Bool) → MatchBool b (IsCodingUnit (block_at x y 3) leaves) (leaves ≡ []) → AreModes leaves
     go true u = subst AreModes (sym u.one) (u.mode, tt)
     go false e = subst AreModes (sym e) tt
 tree_modes size (suc depth) x y leaves t = go (is_inside size x y) (is_whole size (2 * half) x y) t (tree_modes size depth)
@@ -327,8 +327,8 @@ tree_modes size (suc depth) x y leaves t = go (is_inside size x y) (is_whole siz
         (all_append (λ leaf. IsMode leaf.kind) (q.first ++ q.second) q.third
         (all_append (λ leaf. IsMode leaf.kind) q.first q.second (m _ _ _ q.top_left) (m _ _ _ q.top_right)) (m _ _ _ q.bottom_left)) (m _ _ _ q.bottom_right))
 
-    go : (a b : Bool) → MatchBool a (MatchBool b (IsCodingUnit x y (4 + depth) leaves ⊎ AreQuarters (IsTree size depth) half x y leaves) (AreQuarters (IsTree size depth) half x y leaves)) (leaves ≡ []) → Modes → AreModes leaves
-    go true true u m = ⊎_elim (λ (v : IsCodingUnit x y (4 + depth) leaves). subst AreModes (sym v.one) (v.mode, tt)) (λ q. four q m) u
+    go : (a b : Bool) → MatchBool a (MatchBool b (IsCodingUnit (block_at x y (4 + depth)) leaves ⊎ AreQuarters (IsTree size depth) half x y leaves) (AreQuarters (IsTree size depth) half x y leaves)) (leaves ≡ []) → Modes → AreModes leaves
+    go true true u m = ⊎_elim (λ (v : IsCodingUnit (block_at x y (4 + depth)) leaves). subst AreModes (sym v.one) (v.mode, tt)) (λ q. four q m) u
     go true false q m = four q m
     go false b e m = subst AreModes (sym e) tt
 
@@ -337,13 +337,13 @@ record HasFirst (log2 : ℕ) (leaves : List Leaf) : Type 0 where
   first : Leaf
   more : List Leaf
   is : leaves ≡ first ∷ more
-  small : first.log2 ≤ log2
+  small : first.block.log2 ≤ log2
 
 tree_first : (size : Size) (depth x y : ℕ) (leaves : List Leaf) → IsTree size depth x y leaves → is_inside size x y ≡ true → HasFirst (3 + depth) leaves
 tree_first size zero x y leaves t inside = go (is_inside size x y) inside t
   where
-    go : (b : Bool) → b ≡ true → MatchBool b (IsCodingUnit x y 3 leaves) (leaves ≡ []) → HasFirst 3 leaves
-    go true e u = record { first = leaf_with x y 3 u.kind; more = []; is = u.one; small = omega arith }
+    go : (b : Bool) → b ≡ true → MatchBool b (IsCodingUnit (block_at x y 3) leaves) (leaves ≡ []) → HasFirst 3 leaves
+    go true e u = record { first = leaf_with (block_at x y 3) u.kind; more = []; is = u.one; small = omega arith }
     go false e u = absurd (cc)
 tree_first size (suc depth) x y leaves t inside = go (is_inside size x y) inside (is_whole size (2 * half) x y) t (λ ls q. tree_first size depth x y ls q inside)
   where
@@ -359,11 +359,11 @@ tree_first size (suc depth) x y leaves t inside = go (is_inside size x y) inside
           first = h.first;
           more = ((h.more ++ q.second) ++ q.third) ++ q.fourth;
           is = q.together ∙ ap (λ (l : List Leaf). ((l ++ q.second) ++ q.third) ++ q.fourth) h.is;
-          small = let s : h.first.log2 ≤ 3 + depth = h.small in omega arith;
+          small = let s : h.first.block.log2 ≤ 3 + depth = h.small in omega arith;
         }
 
-    go : (a : Bool) → a ≡ true → (b : Bool) → MatchBool a (MatchBool b (IsCodingUnit x y (4 + depth) leaves ⊎ AreQuarters (IsTree size depth) half x y leaves) (AreQuarters (IsTree size depth) half x y leaves)) (leaves ≡ []) → First → HasFirst (3 + suc depth) leaves
-    go true e true u f = ⊎_elim (λ (v : IsCodingUnit x y (4 + depth) leaves). record { first = leaf_with x y (4 + depth) v.kind; more = []; is = v.one; small = omega arith }) (λ q. four q f) u
+    go : (a : Bool) → a ≡ true → (b : Bool) → MatchBool a (MatchBool b (IsCodingUnit (block_at x y (4 + depth)) leaves ⊎ AreQuarters (IsTree size depth) half x y leaves) (AreQuarters (IsTree size depth) half x y leaves)) (leaves ≡ []) → First → HasFirst (3 + suc depth) leaves
+    go true e true u f = ⊎_elim (λ (v : IsCodingUnit (block_at x y (4 + depth)) leaves). record { first = leaf_with (block_at x y (4 + depth)) v.kind; more = []; is = v.one; small = omega arith }) (λ q. four q f) u
     go true e false q f = four q f
     go false e b u f = absurd (cc)
 
@@ -372,15 +372,15 @@ unfolding coding_unit_items
 unit_begins kind source before leaf = tt
 
 -- one unit, after a flag or none
-takes_unit : (kind : SliceKind) (source : Source) (x y log2 : ℕ) (before leaves : List Leaf) (u : IsCodingUnit x y log2 leaves) → IsSide log2 → IsSource source → AreModes before → AreAllowed kind leaves
-    → Takes (coding_unit_walk kind source) (λ b. coding_unit_read kind b x y log2) source before leaves
+takes_unit : (kind : SliceKind) (source : Source) (x y log2 : ℕ) (before leaves : List Leaf) (u : IsCodingUnit (block_at x y log2) leaves) → IsSide log2 → IsSource source → AreModes before → AreAllowed kind leaves
+    → Takes (coding_unit_walk (leaf_units kind source)) (λ b. coding_unit_read kind b (block_at x y log2)) source before leaves
 takes_unit kind source x y log2 before leaves u side is modes allowed =
-    let leaf : Leaf = leaf_with x y log2 u.kind in
+    let leaf : Leaf = leaf_with (block_at x y log2) u.kind in
     let may : IsAllowed kind u.kind = (subst (AreAllowed kind) u.one allowed).0 in
     record {
       list = coding_unit_items kind source before leaf;
-      walks = λ rest. ap (λ (l : List Leaf). coding_unit_walk kind source before (l ++ rest)) u.one ∙ ap (λ (l : List Leaf). record { list = coding_unit_items kind source before leaf; before = before ++ l; left = rest }) (sym u.one);
-      reads = reads_as (coding_unit_read kind before x y log2) _ _ _ _ refl (ap (reads_of source) (sym u.one)) (unit_law kind source before x y log2 u.kind side is modes u.mode may);
+      walks = λ rest. ap (λ (l : List Leaf). coding_unit_walk (leaf_units kind source) before (l ++ rest)) u.one ∙ ap (λ (l : List Leaf). record { list = coding_unit_items kind source before leaf; before = before ++ l; left = rest }) (sym u.one);
+      reads = reads_as (coding_unit_read kind before (block_at x y log2)) _ _ _ _ refl (ap (reads_of source) (sym u.one)) (unit_law kind source before x y log2 u.kind side is modes u.mode may);
       begins = unit_begins kind source before leaf;
     }
 
@@ -393,7 +393,7 @@ takes_none read source before leaves none gives = record {
 }
 
 -- how a walk and a reader may be written otherwise
-takes_as : (walk walk' : List Leaf → List Leaf → Walk) (read read' : List Leaf → Reader (List ReadLeaf)) (source : Source) (before leaves : List Leaf)
+takes_as : (walk walk' : List Leaf → List Leaf → Walk Leaf Leaf) (read read' : List Leaf → Reader (List ReadLeaf)) (source : Source) (before leaves : List Leaf)
     → ((rest : List Leaf) → walk' before (leaves ++ rest) ≡ walk before (leaves ++ rest)) → read' before ≡ read before
     → Takes walk read source before leaves → Takes walk' read' source before leaves
 takes_as walk walk' read read' source before leaves same_walk same_read t = record {
@@ -404,7 +404,7 @@ takes_as walk walk' read read' source before leaves same_walk same_read t = reco
 }
 
 -- a flag in front
-takes_flag : (walk : List Leaf → List Leaf → Walk) (read other : List Leaf → Reader (List ReadLeaf)) (source : Source) (before leaves : List Leaf) (context : ℕ) (value : Bool)
+takes_flag : (walk : List Leaf → List Leaf → Walk Leaf Leaf) (read other : List Leaf → Reader (List ReadLeaf)) (source : Source) (before leaves : List Leaf) (context : ℕ) (value : Bool)
     → Takes walk (λ b. cond value (read b) (other b)) source before leaves
     → Takes (λ b left. walk_on (context_bin value context ∷ []) (walk b left)) (λ b. bin (Context context) >>= λ flag. cond flag (read b) (other b)) source before leaves
 takes_flag walk read other source before leaves context value t = record {
@@ -422,13 +422,13 @@ depth_side (suc (suc depth)) h = absurd (omega arith)
 
 pub tree_law : (kind : SliceKind) (size : Size) (source : Source) (depth x y : ℕ) (before leaves : List Leaf) → depth < 3 → IsSource source
     → IsTree size depth x y leaves → AreModes before → AreAllowed kind leaves
-    → Takes (tree_walk kind size source depth x y) (tree_read kind size depth x y) source before leaves
+    → Takes (tree_walk (leaf_units kind source) size depth x y) (tree_read kind size depth x y) source before leaves
 tree_law kind size source zero x y before leaves small is t modes allowed = go (is_inside size x y) refl t
   where
-    go : (b : Bool) → is_inside size x y ≡ b → MatchBool b (IsCodingUnit x y 3 leaves) (leaves ≡ []) → Takes (tree_walk kind size source zero x y) (tree_read kind size zero x y) source before leaves
-    go true e u = takes_as (coding_unit_walk kind source) (tree_walk kind size source zero x y) (λ b. coding_unit_read kind b x y 3) (tree_read kind size zero x y) source before leaves
+    go : (b : Bool) → is_inside size x y ≡ b → MatchBool b (IsCodingUnit (block_at x y 3) leaves) (leaves ≡ []) → Takes (tree_walk (leaf_units kind source) size zero x y) (tree_read kind size zero x y) source before leaves
+    go true e u = takes_as (coding_unit_walk (leaf_units kind source)) (tree_walk (leaf_units kind source) size zero x y) (λ b. coding_unit_read kind b (block_at x y 3)) (tree_read kind size zero x y) source before leaves
         (λ rest. cond-true (is_inside size x y) _ _ e) (cond-true (is_inside size x y) _ _ e) (takes_unit kind source x y 3 before leaves u eight is modes allowed)
-    go false e none = takes_as no_walk (tree_walk kind size source zero x y) (λ b. give []) (tree_read kind size zero x y) source before leaves
+    go false e none = takes_as no_walk (tree_walk (leaf_units kind source) size zero x y) (λ b. give []) (tree_read kind size zero x y) source before leaves
         (λ rest. cond-false (is_inside size x y) _ _ e) (cond-false (is_inside size x y) _ _ e) (takes_none (λ b. give []) source before leaves none refl)
 tree_law kind size source (suc depth) x y before leaves small is t modes allowed =
     go (is_inside size x y) refl (is_whole size (2 * half) x y) refl t (λ px py b ls. tree_law kind size source depth px py b ls (omega arith) is)
@@ -437,13 +437,13 @@ tree_law kind size source (suc depth) x y before leaves small is t modes allowed
     half = 2 ^ (3 + depth)
 
     Lower : Type 0
-    Lower = (px py : ℕ) (b ls : List Leaf) → IsTree size depth px py ls → AreModes b → AreAllowed kind ls → Takes (tree_walk kind size source depth px py) (tree_read kind size depth px py) source b ls
+    Lower = (px py : ℕ) (b ls : List Leaf) → IsTree size depth px py ls → AreModes b → AreAllowed kind ls → Takes (tree_walk (leaf_units kind source) size depth px py) (tree_read kind size depth px py) source b ls
 
     flag : ℕ
-    flag = split_context before x y (4 + depth)
+    flag = split_context before (block_at x y (4 + depth))
 
-    split_walk : List Leaf → List Leaf → Walk
-    split_walk = quarters (tree_walk kind size source depth) half x y
+    split_walk : List Leaf → List Leaf → Walk Leaf Leaf
+    split_walk = quarters (tree_walk (leaf_units kind source) size depth) half x y
 
     split_read : List Leaf → Reader (List ReadLeaf)
     split_read = quarters_read (tree_read kind size depth) half x y
@@ -457,7 +457,7 @@ tree_law kind size source (suc depth) x y before leaves small is t modes allowed
         let m2 : AreModes ((before ++ q.first) ++ q.second) = all_append (λ leaf. IsMode leaf.kind) (before ++ q.first) q.second m1 (tree_modes size depth (x + half) y q.second q.top_right) in
         let m3 : AreModes (((before ++ q.first) ++ q.second) ++ q.third) = all_append (λ leaf. IsMode leaf.kind) ((before ++ q.first) ++ q.second) q.third m2 (tree_modes size depth x (y + half) q.third q.bottom_left) in
         subst (λ (l : List Leaf). Takes split_walk split_read source before l) (sym q.together)
-        (takes_quarters (tree_walk kind size source depth) (tree_read kind size depth) source half x y before q.first q.second q.third q.fourth
+        (takes_quarters (tree_walk (leaf_units kind source) size depth) (tree_read kind size depth) source half x y before q.first q.second q.third q.fourth
         (lower x y before q.first q.top_left modes (all_front (λ leaf. IsAllowed kind leaf.kind) q.first q.second may12))
         (lower (x + half) y (before ++ q.first) q.second q.top_right m1 (all_back (λ leaf. IsAllowed kind leaf.kind) q.first q.second may12))
         (lower x (y + half) ((before ++ q.first) ++ q.second) q.third q.bottom_left m2 (all_back (λ leaf. IsAllowed kind leaf.kind) (q.first ++ q.second) q.third may123))
@@ -467,8 +467,8 @@ tree_law kind size source (suc depth) x y before leaves small is t modes allowed
     not_of b c e = ap not e
 
     go : (a : Bool) → is_inside size x y ≡ a → (b : Bool) → is_whole size (2 * half) x y ≡ b
-        → MatchBool a (MatchBool b (IsCodingUnit x y (4 + depth) leaves ⊎ AreQuarters (IsTree size depth) half x y leaves) (AreQuarters (IsTree size depth) half x y leaves)) (leaves ≡ [])
-        → Lower → Takes (tree_walk kind size source (suc depth) x y) (tree_read kind size (suc depth) x y) source before leaves
+        → MatchBool a (MatchBool b (IsCodingUnit (block_at x y (4 + depth)) leaves ⊎ AreQuarters (IsTree size depth) half x y leaves) (AreQuarters (IsTree size depth) half x y leaves)) (leaves ≡ [])
+        → Lower → Takes (tree_walk (leaf_units kind source) size (suc depth) x y) (tree_read kind size (suc depth) x y) source before leaves
     go false e b f none lower = takes_as no_walk _ (λ b'. give []) _ source before leaves
         (λ rest. cond-true (not (is_inside size x y)) _ _ (ap not e)) (cond-true (not (is_inside size x y)) _ _ (ap not e)) (takes_none (λ b'. give []) source before leaves none refl)
     go true e false f q lower = takes_as split_walk _ split_read _ source before leaves
@@ -476,41 +476,41 @@ tree_law kind size source (suc depth) x y before leaves small is t modes allowed
         (cond-false (not (is_inside size x y)) _ _ (ap not e) ∙ cond-true (not (is_whole size (2 * half) x y)) _ _ (ap not f))
         (four q lower)
     go true e true f u lower = ⊎_elim
-        (λ (v : IsCodingUnit x y (4 + depth) leaves). takes_as (λ b left. walk_on (context_bin false flag ∷ []) (coding_unit_walk kind source b left)) _
-        (λ b. bin (Context flag) >>= λ c. cond c (split_read b) (coding_unit_read kind b x y (4 + depth))) _ source before leaves
-        (λ rest. at_whole rest ∙ cond-true (is_leaf (4 + depth) (leaves ++ rest)) _ _ (ap (λ (l : List Leaf). is_leaf (4 + depth) (l ++ rest)) v.one ∙ eq-eqb (4 + depth) (4 + depth) refl))
+        (λ (v : IsCodingUnit (block_at x y (4 + depth)) leaves). takes_as (λ b left. walk_on (context_bin false flag ∷ []) (coding_unit_walk (leaf_units kind source) b left)) _
+        (λ b. bin (Context flag) >>= λ c. cond c (split_read b) (coding_unit_read kind b (block_at x y (4 + depth)))) _ source before leaves
+        (λ rest. at_whole rest ∙ cond-true (is_next leaf_block (4 + depth) (leaves ++ rest)) _ _ (ap (λ (l : List Leaf). is_next leaf_block (4 + depth) (l ++ rest)) v.one ∙ eq-eqb (4 + depth) (4 + depth) refl))
         read_whole
-        (takes_flag (coding_unit_walk kind source) split_read (λ b. coding_unit_read kind b x y (4 + depth)) source before leaves flag false
+        (takes_flag (coding_unit_walk (leaf_units kind source)) split_read (λ b. coding_unit_read kind b (block_at x y (4 + depth))) source before leaves flag false
         (takes_unit kind source x y (4 + depth) before leaves v (depth_side depth (omega arith)) is modes allowed)))
         (λ (q : AreQuarters (IsTree size depth) half x y leaves). takes_as (λ b left. walk_on (context_bin true flag ∷ []) (split_walk b left)) _
-        (λ b. bin (Context flag) >>= λ c. cond c (split_read b) (coding_unit_read kind b x y (4 + depth))) _ source before leaves
-        (λ rest. at_whole rest ∙ cond-false (is_leaf (4 + depth) (leaves ++ rest)) _ _ (not_leaf q rest))
+        (λ b. bin (Context flag) >>= λ c. cond c (split_read b) (coding_unit_read kind b (block_at x y (4 + depth)))) _ source before leaves
+        (λ rest. at_whole rest ∙ cond-false (is_next leaf_block (4 + depth) (leaves ++ rest)) _ _ (not_leaf q rest))
         read_whole
-        (takes_flag split_walk split_read (λ b. coding_unit_read kind b x y (4 + depth)) source before leaves flag true (four q lower)))
+        (takes_flag split_walk split_read (λ b. coding_unit_read kind b (block_at x y (4 + depth))) source before leaves flag true (four q lower)))
         u
       where
-        at_whole : (rest : List Leaf) → tree_walk kind size source (suc depth) x y before (leaves ++ rest)
-            ≡ cond (is_leaf (4 + depth) (leaves ++ rest)) (walk_on (context_bin false flag ∷ []) (coding_unit_walk kind source before (leaves ++ rest))) (walk_on (context_bin true flag ∷ []) (split_walk before (leaves ++ rest)))
+        at_whole : (rest : List Leaf) → tree_walk (leaf_units kind source) size (suc depth) x y before (leaves ++ rest)
+            ≡ cond (is_next leaf_block (4 + depth) (leaves ++ rest)) (walk_on (context_bin false flag ∷ []) (coding_unit_walk (leaf_units kind source) before (leaves ++ rest))) (walk_on (context_bin true flag ∷ []) (split_walk before (leaves ++ rest)))
         at_whole rest = cond-false (not (is_inside size x y)) _ _ (ap not e) ∙ cond-false (not (is_whole size (2 * half) x y)) _ _ (ap not f)
 
-        read_whole : tree_read kind size (suc depth) x y before ≡ (bin (Context flag) >>= λ c. cond c (split_read before) (coding_unit_read kind before x y (4 + depth)))
+        read_whole : tree_read kind size (suc depth) x y before ≡ (bin (Context flag) >>= λ c. cond c (split_read before) (coding_unit_read kind before (block_at x y (4 + depth))))
         read_whole = cond-false (not (is_inside size x y)) _ _ (ap not e) ∙ cond-false (not (is_whole size (2 * half) x y)) _ _ (ap not f)
 
-        not_leaf : (q : AreQuarters (IsTree size depth) half x y leaves) (rest : List Leaf) → is_leaf (4 + depth) (leaves ++ rest) ≡ false
+        not_leaf : (q : AreQuarters (IsTree size depth) half x y leaves) (rest : List Leaf) → is_next leaf_block (4 + depth) (leaves ++ rest) ≡ false
         not_leaf q rest =
             let h : HasFirst (3 + depth) q.first = tree_first size depth x y q.first q.top_left e in
-            let s : h.first.log2 ≤ 3 + depth = h.small in
-            let differs_there : (h.first.log2 == 4 + depth) ≡ false = ne_eqb h.first.log2 (4 + depth) (λ k. omega arith) in
-            ap (λ (l : List Leaf). is_leaf (4 + depth) (l ++ rest)) (q.together ∙ ap (λ (l : List Leaf). ((l ++ q.second) ++ q.third) ++ q.fourth) h.is) ∙ differs_there
+            let s : h.first.block.log2 ≤ 3 + depth = h.small in
+            let differs_there : (h.first.block.log2 == 4 + depth) ≡ false = ne_eqb h.first.block.log2 (4 + depth) (λ k. omega arith) in
+            ap (λ (l : List Leaf). is_next leaf_block (4 + depth) (l ++ rest)) (q.together ∙ ap (λ (l : List Leaf). ((l ++ q.second) ++ q.third) ++ q.fourth) h.is) ∙ differs_there
 
 -- the law of coding tree units
 pub ctu_law : (kind : SliceKind) (size : Size) (source : Source) (ctu : ℕ) (before leaves : List Leaf) → IsSource source
     → IsLawfulTree size ctu leaves → AreModes before → AreAllowed kind leaves
-    → Reads (ctu_read kind size before ctu) (ctu_items kind size source before leaves ctu) (reads_of source leaves)
+    → Reads (ctu_read kind size before ctu) (ctu_items (leaf_units kind source) size before leaves ctu) (reads_of source leaves)
 unfolding ctu_read ctu_items
 ctu_law kind size source ctu before leaves is t modes allowed =
-    let r : Takes (tree_walk kind size source 2 (ctu_x size ctu) (ctu_y size ctu)) (tree_read kind size 2 (ctu_x size ctu) (ctu_y size ctu)) source before leaves =
+    let r : Takes (tree_walk (leaf_units kind source) size 2 (ctu_x size ctu) (ctu_y size ctu)) (tree_read kind size 2 (ctu_x size ctu) (ctu_y size ctu)) source before leaves =
     tree_law kind size source 2 (ctu_x size ctu) (ctu_y size ctu) before leaves (omega arith) is t modes allowed in
-    let same : tree_walk kind size source 2 (ctu_x size ctu) (ctu_y size ctu) before leaves ≡ record { list = r.list; before = before ++ leaves; left = [] } =
-    ap (tree_walk kind size source 2 (ctu_x size ctu) (ctu_y size ctu) before) (sym (append-nil leaves)) ∙ r.walks [] in
-    reads_as _ r.list _ _ _ (sym (ap (λ (w : Walk). w.list) same)) refl r.reads
+    let same : tree_walk (leaf_units kind source) size 2 (ctu_x size ctu) (ctu_y size ctu) before leaves ≡ record { list = r.list; before = before ++ leaves; left = [] } =
+    ap (tree_walk (leaf_units kind source) size 2 (ctu_x size ctu) (ctu_y size ctu) before) (sym (append-nil leaves)) ∙ r.walks [] in
+    reads_as _ r.list _ _ _ (sym (ap (λ (w : Walk Leaf Leaf). w.list) same)) refl r.reads

@@ -19,7 +19,7 @@ use Rattle.h265_model.specs.declared.Place.TheVariants.{Bypass}
 use Rattle.h265_model.specs.Binarise.{tr, fl, eg, remaining, bypass_bins, tr_read, fl_read, eg_read, remaining_read}
 use Rattle.h265_model.specs.Modes.{AreCandidates, mode_read, mode_items}
 use Rattle.h265_model.specs.Residual.{IsSide, AreLevels, cbf, shape, residual_read, residual_items}
-use Rattle.h265_model.specs.Tree.{Source, IsSource, IsLawfulTree, items_of_row, source_of}
+use Rattle.h265_model.specs.Tree.{leaf_units, Source, IsSource, IsLawfulTree, items_of_row, source_of}
 use Rattle.h265_model.specs.Slice.{substreams, IsSlice, row_code}
 use Rattle.h265_model.specs.Choice.{choice}
 use Rattle.h265_model.specs.Wave.{Jobs, Event, new_wave, AreLawful, AllFinished, after_events, results, row_bytes}
@@ -125,14 +125,14 @@ EachPictureIsSource = (size : Size) (picture : Picture) → IsPicture picture �
 abbrev pub EachRowIsWellFormed : Type 0
 EachRowIsWellFormed =
     (kind : SliceKind) (size : Size) (source : Source) (leaves : List (List Leaf)) (row : ℕ) →
-    IsSlice kind size source leaves → row < ctus size.h → IsWellFormed (items_of_row kind size source leaves row)
+    IsSlice kind size source leaves → row < ctus size.h → IsWellFormed (items_of_row (leaf_units kind source) size leaves row)
 
 -- the bytes of a row end in one that isn't 0, and an entry point can count them (7.4.7.1)
 abbrev pub EachRowIsSubstream : Type 0
 EachRowIsSubstream =
     (kind : SliceKind) (size : Size) (source : Source) (leaves : List (List Leaf)) (row : ℕ) →
     IsSlice kind size source leaves → ctus size.w ≤ 128 → row < ctus size.h →
-    (let bytes : List ℕ = row_code kind size source leaves row in (0 < slice_index bytes (length bytes - 1)) × (length bytes < 2 ^ 31))
+    (let bytes : List ℕ = row_code kind (leaf_units kind source) size leaves row in (0 < slice_index bytes (length bytes - 1)) × (length bytes < 2 ^ 31))
 
 -- ---- pictures
 

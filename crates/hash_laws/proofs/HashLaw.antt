@@ -1,6 +1,6 @@
 -- The stream of pictures with hashes is decoded to them.
-use Rattle.std.proofs.Common.{◌≡◌, refl, sym, ◌∙◌, ap, ℕ, ◌+◌, ◌%◌, ◌<◌, List, [], ◌∷◌, ◌++◌, true, false, append-nil, arith}
-use Rattle.std.specs.Prelude.{Option, Some, None, Ok, Err, Result, bytes_eq}
+use Rattle.std.proofs.Common.{subst, ◌≡◌, refl, sym, ◌∙◌, ap, ℕ, ◌+◌, ◌%◌, ◌<◌, List, [], ◌∷◌, ◌++◌, true, false, append-nil, arith}
+use Rattle.std.specs.Prelude.{Bool, Option, Some, None, Ok, Err, Result, bytes_eq}
 use Rattle.std.specs.List.{flat_map}
 use Rattle.std.proofs.lemmas.Bool.{cond-true}
 use Rattle.std.proofs.lemmas.Slice.Eq.{bytes_eq-Decides}
@@ -8,13 +8,13 @@ use Rattle.h265_model.specs.declared.extra.Extra.TheVariants.{Hash}
 use Rattle.md5.specs.Md5.{md5}
 use Rattle.h265_model.specs.Plain.{Size}
 use Rattle.h265_model.specs.Bits.{◌>>-◌}
-use Rattle.h265_model.specs.Settings.{Settings}
+use Rattle.h265_model.specs.Settings.{has_segments, Settings}
 use Rattle.h265_model.specs.Raster.{Raster, IsRaster, planes, crop}
 use Rattle.h265_model.specs.NalUnits.{NalUnit, IsNalUnit, EndsWell, nal_unit_bytes, stream_bytes}
-use Rattle.h265_model.specs.Stream.{order_count}
+use Rattle.h265_model.specs.Stream.{is_idr, reference, order_count}
 use Rattle.h265_model.specs.Decode.{Decoded, decoded_picture}
 use Rattle.h265_model.specs.Hash.{hash_header, hash_of_planes, hash_bits}
-use Rattle.h265_model.specs.ExtraStream.{hash_piece, extra_piece}
+use Rattle.h265_model.specs.Stream.{hash_piece, picture_units, picture_piece}
 use Rattle.h265_model.specs.Decode.{Stand, hash_step, step, read_units}
 use Rattle.h265_laws.proofs.EndsLaw.{ends_append, ends_well}
 use Rattle.h265_laws.proofs.HeadLaws.{read_head-head_bits}
@@ -25,6 +25,7 @@ use Rattle.h265_laws.proofs.ParamLaws.{read_params-param_units}
 use Rattle.stream_laws.proofs.OldStreams.{now_whole, step_same}
 use Rattle.stream_laws.proofs.StreamForm.{one_step, ReadsOn, AreRead, stream_is_decoded}
 use Rattle.hash_laws.specs.Laws.{EachHashedStreamIsDecoded}
+use Rattle.h265_model.specs.declared.extra.Extra.{Extra}
 
 abbrev hash_unit : Settings → Raster → NalUnit
 hash_unit settings raster = record { header = hash_header; rbsp = hash_bits settings.size (picture_of settings raster) }
@@ -79,18 +80,22 @@ hashed_is_read settings fit some n number before raster stand rest is behind =
           ∙ both_out (read_units size false (number + 1 + 1) (then_hash now) rest) (crop size (decoded_picture size now)) raster (cropped size raster is some));
     }
 
-hashed_are_read : (settings : Settings) → IsFit settings.size → 0 < settings.size.w → AreRead settings Hash (hashed_units settings)
-unfolding extra_piece stream_bytes
-hashed_are_read settings fit some = record {
+hashed_are_read : (settings : Settings) → settings.extra ≡ Hash → IsFit settings.size → 0 < settings.size.w → AreRead settings (hashed_units settings)
+unfolding picture_piece picture_units stream_bytes
+hashed_are_read settings kind fit some = record {
   pieces = λ n before raster is.
-      ap (λ (l : List ℕ). l ++ hash_piece settings.size (picture_of settings raster)) (piece_is_unit settings n before raster fit is)
-      ∙ ap (λ (l : List ℕ). nal_unit_bytes (picture_unit settings n before raster) ++ l) (sym (append-nil (nal_unit_bytes (hash_unit settings raster))));
+      ap
+      (λ (x : Extra). picture_units x settings (is_idr settings.key n) (order_count settings.key n % 256) (reference (is_idr settings.key n) settings.size before) (picture_of settings raster)) kind
+      ∙ (ap (λ (l : List ℕ). l ++ hash_piece settings.size (picture_of settings raster)) (piece_is_unit settings (is_idr settings.key n) (order_count settings.key n % 256) before raster fit is)
+      ∙ ap (λ (l : List ℕ). nal_unit_bytes (picture_unit settings n before raster) ++ l) (sym (append-nil (nal_unit_bytes (hash_unit settings raster)))));
   are = λ n before raster is. (unit_is settings _ _ before raster fit is, (hash_unit_is settings raster, tt));
-  read = λ n number before raster stand rest is behind whole. hashed_is_read settings fit some n number before raster stand rest is behind;
+  read = λ n number before raster stand rest is behind whole.
+      subst (λ (b : Bool). ReadsOn settings b n number raster stand (hashed_units settings n before raster) rest) (sym (ap has_segments kind))
+      (hashed_is_read settings fit some n number before raster stand rest is behind);
 }
 
 pub hashed_streams_are_decoded : EachHashedStreamIsDecoded
-hashed_streams_are_decoded settings rasters size_is are =
-    stream_is_decoded settings Hash (hashed_units settings)
-    (hashed_are_read settings (size_fits settings.size size_is) (in_limits settings.size size_is).w_low)
-    (read_params-param_units settings.size false size_is (λ e. absurd (cc))) rasters are
+hashed_streams_are_decoded settings rasters kind size_is are =
+    stream_is_decoded settings (hashed_units settings)
+    (hashed_are_read settings kind (size_fits settings.size size_is) (in_limits settings.size size_is).w_low)
+    (read_params-param_units settings.size (has_segments settings.extra) size_is (λ e. absurd (let f : has_segments settings.extra ≡ false = ap has_segments kind in cc))) rasters are

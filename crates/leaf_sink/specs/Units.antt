@@ -2,13 +2,13 @@
 use Rattle.std.specs.Prelude.{◌≡◌, ℕ, ◌*◌, ◌^◌, Bool, true, List, [], ◌∷◌, map, length, Option, Some, None, ℤ, pos}
 use Rattle.std.specs.List.{list_any}
 use Rattle.std.specs.Option.{option_copied}
-use Rattle.h265_model.specs.Plain.{Size, covers}
+use Rattle.h265_model.specs.Plain.{block_at, Size, covers}
 use Rattle.h265_model.specs.Predict.{is_available, square}
 use Rattle.h265_model.specs.Tree.{ReadUnit, Content, leaf_of}
 use Rattle.leaf_sink.specs.declared.residuals.Residuals.{Residuals}
 
 abbrev pub unit : ℕ → ℕ → ℕ → Content → ReadUnit
-unit x y log2 content = record { x = x; y = y; log2 = log2; content = content }
+unit x y log2 content = record { block = block_at x y log2; content = content }
 
 -- one of these units covers the place
 abbrev pub is_covered : List ReadUnit → ℕ → ℕ → Bool

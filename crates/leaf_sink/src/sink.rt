@@ -1,6 +1,6 @@
 //! What takes coding units.
 ghost use Rattle.std.specs.Prelude.{◌≡◌, ◌<◌, ◌≤◌, ◌+◌, ◌*◌, ◌%◌, ◌^◌, ◌++◌, ◌∷◌, [], List, length, IsTrue};
-ghost use Rattle.h265_model.specs.Plain.{coded};
+ghost use Rattle.h265_model.specs.Plain.{block_at, coded};
 ghost use Rattle.h265_model.specs.Motion.{has_source};
 ghost use Rattle.h265_model.specs.Tree.{thirds, ReadUnit, Copied, Moved, Samples, Levels};
 ghost use Rattle.px_plane.specs.Planes.{Planes};
@@ -28,7 +28,7 @@ pub trait LeafSink {
         requires row { y % 2 ^ log2 ≡ 0 }
         requires across { x + 2 ^ log2 ≤ coded (last self.old).size.w }
         requires down { y + 2 ^ log2 ≤ coded (last self.old).size.h }
-        requires source { IsTrue (has_source (last self.old).size x y log2 vector) }
+        requires source { IsTrue (has_source (last self.old).size (block_at x y log2) vector) }
         ensures last { last self.new ≡ last self.old }
         ensures taken { (units : List ReadUnit) → stands_for self.old units → HasAvailable (last self.old).size units x y
             → stands_for self.new (units ++ unit x y log2 (Copied vector) ∷ []) };
@@ -41,7 +41,7 @@ pub trait LeafSink {
         requires row { y % 2 ^ log2 ≡ 0 }
         requires across { x + 2 ^ log2 ≤ coded (last self.old).size.w }
         requires down { y + 2 ^ log2 ≤ coded (last self.old).size.h }
-        requires source { IsTrue (has_source (last self.old).size x y log2 vector) }
+        requires source { IsTrue (has_source (last self.old).size (block_at x y log2) vector) }
         ensures last { last self.new ≡ last self.old }
         ensures taken { (units : List ReadUnit) → stands_for self.old units → HasAvailable (last self.old).size units x y
             → stands_for self.new (units ++ unit x y log2 (Moved vector) ∷ []) };

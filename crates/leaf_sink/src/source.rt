@@ -1,6 +1,6 @@
 //! Where a unit is copied from.
 ghost use Rattle.std.specs.Prelude.{◌≡◌, ◌<◌, ◌≤◌, ◌^◌};
-ghost use Rattle.h265_model.specs.Plain.{coded};
+ghost use Rattle.h265_model.specs.Plain.{block_at, coded};
 ghost use Rattle.h265_model.specs.Motion as motion;
 
 use h265_model::Vector;
@@ -39,7 +39,7 @@ pub fn has_source(size: Size, x: u32, y: u32, log2: u32, vector: Vector) -> bool
     requires high { log2 ≤ 5 }
     requires across { x < coded size.w }
     requires down { y < coded size.h }
-    ensures { result ≡ motion.has_source size x y log2 vector }
+    ensures { result ≡ motion.has_source size (block_at x y log2) vector }
 {
     let n = match log2 {
         3 => 8,

@@ -4,6 +4,7 @@ use Rattle.std.specs.Option.{option_or}
 use Rattle.std.specs.Prelude.{unwrap_or}
 use Rattle.h265_model.specs.declared.moves.Vector.{Vector}
 use Rattle.h265_model.specs.Motion.{Moving, no_motion, vector_in, vector_before, merge, predictors, first_vector, or_none, two_of}
+use Rattle.h265_model.specs.Plain.{block_at}
 use Rattle.motion_grid.specs.Cells.{Cells, HasMotion, kept_of, unit_at, vector_kept, kept_before}
 
 kept_is : (unit : Option Moving) → vector_kept (kept_of unit) ≡ vector_in unit
@@ -34,7 +35,7 @@ five g x y n = first_vector (kept_before g x (y + n) ∷ kept_before g (x + n) y
 
 pub merge_is : (g : Cells) (units : List Moving) (x y log2 : ℕ) → HasMotion g units
     → or_none (first_vector (kept_before g x (y + 2 ^ log2) ∷ kept_before g (x + 2 ^ log2) y ∷ kept_before g (x + 2 ^ log2 + 1) y ∷ kept_before g x (y + 2 ^ log2 + 1) ∷ kept_before g x y ∷ []))
-    ≡ merge units x y log2
+    ≡ merge units (block_at x y log2)
 unfolding merge
 merge_is g units x y log2 has =
     rw (before_is g units x (y + 2 ^ log2) has, before_is g units (x + 2 ^ log2) y has, before_is g units (x + 2 ^ log2 + 1) y has, before_is g units x (y + 2 ^ log2 + 1) has, before_is g units x y has) refl
@@ -42,7 +43,7 @@ merge_is g units x y log2 has =
 pub predictors_are : (g : Cells) (units : List Moving) (x y log2 : ℕ) → HasMotion g units
     → two_of (option_or (kept_before g x (y + 2 ^ log2 + 1)) (kept_before g x (y + 2 ^ log2)))
     (option_or (option_or (kept_before g (x + 2 ^ log2 + 1) y) (kept_before g (x + 2 ^ log2) y)) (kept_before g x y))
-    ≡ predictors units x y log2
+    ≡ predictors units (block_at x y log2)
 unfolding predictors
 predictors_are g units x y log2 has =
     rw (first_two (kept_before g x (y + 2 ^ log2 + 1)) (kept_before g x (y + 2 ^ log2)), first_three (kept_before g (x + 2 ^ log2 + 1) y) (kept_before g (x + 2 ^ log2) y) (kept_before g x y))

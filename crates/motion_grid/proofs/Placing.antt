@@ -51,10 +51,10 @@ from_is x log2 p low high = each_side (λ s b. x % s ≡ 0 → nat_le x p ≡ na
 to_is : (x log2 p : ℕ) → 3 ≤ log2 → log2 ≤ 5 → x % 2 ^ log2 ≡ 0 → nat_lt p (x + 2 ^ log2) ≡ nat_lt (p / 8) (x / 8 + 2 ^ (log2 - 3))
 to_is x log2 p low high = each_side (λ s b. x % s ≡ 0 → nat_lt p (x + s) ≡ nat_lt (p / 8) (x / 8 + b)) log2 low high (λ e. grind (arith, nat_tests)) (λ e. grind (arith, nat_tests)) (λ e. grind (arith, nat_tests))
 
-covers_is : (x y : ℕ) (leaf : Leaf) → 3 ≤ leaf.log2 → leaf.log2 ≤ 5 → leaf.x % 2 ^ leaf.log2 ≡ 0 → leaf.y % 2 ^ leaf.log2 ≡ 0
-    → covers x y leaf ≡ is_within (leaf.x / 8) (leaf.x / 8 + 2 ^ (leaf.log2 - 3)) (leaf.y / 8) (leaf.y / 8 + 2 ^ (leaf.log2 - 3)) (x / 8) (y / 8)
+covers_is : (x y : ℕ) (leaf : Leaf) → 3 ≤ leaf.block.log2 → leaf.block.log2 ≤ 5 → leaf.block.x % 2 ^ leaf.block.log2 ≡ 0 → leaf.block.y % 2 ^ leaf.block.log2 ≡ 0
+    → covers x y leaf ≡ is_within (leaf.block.x / 8) (leaf.block.x / 8 + 2 ^ (leaf.block.log2 - 3)) (leaf.block.y / 8) (leaf.block.y / 8 + 2 ^ (leaf.block.log2 - 3)) (x / 8) (y / 8)
 covers_is x y leaf low high column row =
-    rw (from_is leaf.x leaf.log2 x low high column, to_is leaf.x leaf.log2 x low high column, from_is leaf.y leaf.log2 y low high row, to_is leaf.y leaf.log2 y low high row) refl
+    rw (from_is leaf.block.x leaf.block.log2 x low high column, to_is leaf.block.x leaf.block.log2 x low high column, from_is leaf.block.y leaf.block.log2 y low high row, to_is leaf.block.y leaf.block.log2 y low high row) refl
 
 -- a place of the coded picture is one of the cells
 place_within : (a b columns rows : ℕ) → a < columns → b < rows → b * columns + a < columns * rows
@@ -64,15 +64,15 @@ inside_from : (size : Size) (x y right bottom : ℕ) → right ≤ coded size.w 
 inside_from size x y right bottom a b h k = and_from _ _ (lt-ltb x (coded size.w) (omega arith)) (lt-ltb y (coded size.h) (omega arith))
 
 -- a place of a unit is in the picture that has the unit
-covered_inside : (size : Size) (leaf : Leaf) (x y : ℕ) → leaf.x + 2 ^ leaf.log2 ≤ coded size.w → leaf.y + 2 ^ leaf.log2 ≤ coded size.h → covers x y leaf ≡ true
+covered_inside : (size : Size) (leaf : Leaf) (x y : ℕ) → leaf.block.x + 2 ^ leaf.block.log2 ≤ coded size.w → leaf.block.y + 2 ^ leaf.block.log2 ≤ coded size.h → covers x y leaf ≡ true
     → (nat_lt x (coded size.w) && nat_lt y (coded size.h)) ≡ true
 covered_inside size leaf x y across down h =
     let p = and_parts _ _ h in
     let q = and_parts _ _ p.0 in
     let r = and_parts _ _ q.0 in
-    let right : x < leaf.x + 2 ^ leaf.log2 = ltb-true _ _ r.1 in
-    let bottom : y < leaf.y + 2 ^ leaf.log2 = ltb-true _ _ p.1 in
-    inside_from size x y (leaf.x + 2 ^ leaf.log2) (leaf.y + 2 ^ leaf.log2) across down right bottom
+    let right : x < leaf.block.x + 2 ^ leaf.block.log2 = ltb-true _ _ r.1 in
+    let bottom : y < leaf.block.y + 2 ^ leaf.block.log2 = ltb-true _ _ p.1 in
+    inside_from size x y (leaf.block.x + 2 ^ leaf.block.log2) (leaf.block.y + 2 ^ leaf.block.log2) across down right bottom
 
 -- one unit more at the end
 appended : (w : Bool) (was : Option Moving) (unit : Moving) → cond w (option_or (kept_of was) (Some (record { vector = unit.vector }))) (kept_of was) ≡ kept_of (option_or was (cond w (Some unit) None))

@@ -4,7 +4,7 @@ use Rattle.std.specs.List.{find}
 use Rattle.std.specs.Option.{option_or}
 use Rattle.h265_model.specs.declared.moves.Vector.{Vector}
 use Rattle.h265_model.specs.declared.leaf.Kind.{Kind}
-use Rattle.h265_model.specs.Plain.{Size, coded, leaf_with, covers}
+use Rattle.h265_model.specs.Plain.{block_at, Size, coded, leaf_with, covers}
 use Rattle.h265_model.specs.Settings.{is_size}
 use Rattle.h265_model.specs.Motion.{Moving}
 use Rattle.motion_grid.specs.declared.cells.Cell.{Cell}
@@ -42,7 +42,7 @@ pub record HasMotion (g : Cells) (units : List Moving) : Type 0 where
 
 -- a unit of any kind, as it is coded
 abbrev pub coded_unit : ℕ → ℕ → ℕ → Kind → Option Vector → Moving
-coded_unit x y log2 kind vector = record { leaf = leaf_with x y log2 kind; vector = vector }
+coded_unit x y log2 kind vector = record { leaf = leaf_with (block_at x y log2) kind; vector = vector }
 
 -- ---- how cells are filled
 

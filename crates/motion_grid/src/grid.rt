@@ -1,7 +1,7 @@
 //! The motion of the coding units of a picture that are coded already.
 ghost use Rattle.std.specs.Prelude.{◌≡◌, ℕ, ◌+◌, ◌*◌, ◌%◌, ◌^◌, ◌<◌, ◌≤◌, List, [], ◌∷◌, ◌++◌, IfOk};
 ghost use Rattle.h265_model.specs.declared.leaf.Kind.{Kind};
-ghost use Rattle.h265_model.specs.Plain.{coded};
+ghost use Rattle.h265_model.specs.Plain.{block_at, coded};
 ghost use Rattle.h265_model.specs.Motion as motion;
 ghost use Rattle.h265_model.specs.Motion.{Moving};
 ghost use Rattle.motion_grid.specs.Cells.{blocks, cell_at, kept_before, HasMotion, coded_unit};
@@ -153,7 +153,7 @@ impl MotionGrid {
         requires high { log2 ≤ 5 }
         requires across { x < coded self.now.size.w }
         requires down { y < coded self.now.size.h }
-        ensures { (units : List Moving) → HasMotion self.now units → result ≡ motion.merge units x y log2 }
+        ensures { (units : List Moving) → HasMotion self.now units → result ≡ motion.merge units (block_at x y log2) }
     {
         let n = side(log2);
         let (_w, _h) = (self.size.w(), self.size.h());
@@ -166,7 +166,7 @@ impl MotionGrid {
         requires high { log2 ≤ 5 }
         requires across { x < coded self.now.size.w }
         requires down { y < coded self.now.size.h }
-        ensures { (units : List Moving) → HasMotion self.now units → result ≡ motion.predictors units x y log2 }
+        ensures { (units : List Moving) → HasMotion self.now units → result ≡ motion.predictors units (block_at x y log2) }
     {
         let n = side(log2);
         let (_w, _h) = (self.size.w(), self.size.h());

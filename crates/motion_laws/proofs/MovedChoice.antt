@@ -10,14 +10,14 @@ use Rattle.h265_model.specs.declared.moves.Vector.{Vector}
 use Rattle.h265_model.specs.declared.moves.MoveLeaf.{MoveLeaf}
 use Rattle.h265_model.specs.declared.moves.MoveKind.{MoveKind}
 use Rattle.h265_model.specs.declared.moves.MoveKind.TheVariants as moves
-use Rattle.h265_model.specs.Plain.{Size, Picture, leaf_with, joined, ctu_x, ctu_y}
+use Rattle.h265_model.specs.Plain.{block_at, Size, Picture, leaf_with, joined, ctu_x, ctu_y}
 use Rattle.h265_model.specs.Predict.{is_inside}
 use Rattle.h265_model.specs.Tree.{is_whole, samples_in}
 use Rattle.h265_model.specs.Choice.{intra_cost, same, modes_of}
 use Rattle.h265_model.specs.Motion.{Moving, merge, has_source, leaf_as_coded, as_coded, coded_after}
 use Rattle.h265_model.specs.Rebuild.{moved_samples}
 use Rattle.h265_model.specs.MotionChoice.{MovePlan, cheaper, cheapest, best_of, unit_at, one_unit, vectors_of, tried_vectors, is_copy_by, skip_plans, move_plans, unit_plan, no_units, split_plan, plan, moved_choice, moved_choices}
-use Rattle.h265_model.specs.Walks.{coded_first}
+use Rattle.h265_model.specs.Tree.{coded_first}
 use Rattle.h265_model.proofs.ListParts.{all_append}
 use Rattle.h265_laws.proofs.ChoiceLaw.{modes_are, same_is}
 use Rattle.unit_laws.specs.Laws.{IsShort, CanStand, CanStandAll, IsOneUnit, AreFourParts, IsUnitTree, AreLawfulUnits, IsSameBlock, IsCopied, AreCopied}
@@ -58,14 +58,14 @@ tried_short = (record { x = omega arith; y = omega arith }, short_from 0 64 (ome
 -- ---- copies
 
 record IsFoundAt (prev now : Picture) (size : Size) (leaf : Leaf) (v : Vector) : Type 0 where
-  source : has_source size leaf.x leaf.y leaf.log2 v ≡ true
+  source : has_source size leaf.block v ≡ true
   block : IsSameBlock prev now leaf v
 
 found_at : (prev now : Picture) (size : Size) (leaf : Leaf) (v : Vector) → is_copy_by prev now size leaf v ≡ true → IsFoundAt prev now size leaf v
 unfolding is_copy_by
 found_at prev now size leaf v h =
     let t : ℕ → Bool = λ c. same (moved_samples prev leaf v c) (samples_in now leaf c) in
-    let s = and_parts (has_source size leaf.x leaf.y leaf.log2 v) (t 0 && (t 1 && (t 2 && true))) h in
+    let s = and_parts (has_source size leaf.block v) (t 0 && (t 1 && (t 2 && true))) h in
     let p = and_parts (t 0) (t 1 && (t 2 && true)) s.1 in
     let q = and_parts (t 1) (t 2 && true) p.1 in
     let r = and_parts (t 2) true q.1 in
@@ -83,52 +83,52 @@ found_at prev now size leaf v h =
 -- a plan of one unit, which can stand, and is copied of an equal block if it is copied
 record IsOneChosen (prev now : Picture) (size : Size) (before : List Moving) (x y log2 : ℕ) (p : MovePlan) : Type 0 where
   kind : MoveKind
-  one : p.units ≡ unit_at x y log2 kind ∷ []
-  stand : CanStand P size before x y log2 kind
-  copied : IsCopied prev now before (unit_at x y log2 kind) kind
+  one : p.units ≡ unit_at (block_at x y log2) kind ∷ []
+  stand : CanStand P size before (block_at x y log2) kind
+  copied : IsCopied prev now before (unit_at (block_at x y log2) kind) kind
 
 module _ (prev now : Picture) (size : Size) (effort : ℕ) where
-  skips_are : (before : List Moving) (x y log2 : ℕ) → AllByRecursion (IsOneChosen prev now size before x y log2) (skip_plans prev now size before (unit_at x y log2 moves.Skip))
+  skips_are : (before : List Moving) (x y log2 : ℕ) → AllByRecursion (IsOneChosen prev now size before x y log2) (skip_plans prev now size before (unit_at (block_at x y log2) moves.Skip))
   skips_are before x y log2 = go (is_copy_by prev now size unit_leaf v) refl
     where
       unit_leaf : Leaf
-      unit_leaf = leaf_as_coded (unit_at x y log2 moves.Skip)
+      unit_leaf = leaf_as_coded (unit_at (block_at x y log2) moves.Skip)
 
       v : Vector
-      v = merge before x y log2
+      v = merge before (block_at x y log2)
 
-      go : (t : Bool) → is_copy_by prev now size unit_leaf v ≡ t → AllByRecursion (IsOneChosen prev now size before x y log2) (cond t (one_unit 1 (unit_at x y log2 moves.Skip) ∷ []) [])
+      go : (t : Bool) → is_copy_by prev now size unit_leaf v ≡ t → AllByRecursion (IsOneChosen prev now size before x y log2) (cond t (one_unit 1 (unit_at (block_at x y log2) moves.Skip) ∷ []) [])
       go true e = let f : IsFoundAt prev now size unit_leaf v = found_at prev now size unit_leaf v e in (record { kind = moves.Skip; one = refl; stand = f.source; copied = f.block }, tt)
       go false e = tt
 
   moves_are : (before : List Moving) (x y log2 : ℕ) (vs : List Vector) → AllByRecursion IsShort vs
-      → AllByRecursion (IsOneChosen prev now size before x y log2) (map (λ v. one_unit 16 (unit_at x y log2 (moves.Move v))) (filter (λ v. is_copy_by prev now size (leaf_as_coded (unit_at x y log2 (moves.Move v))) v) vs))
+      → AllByRecursion (IsOneChosen prev now size before x y log2) (map (λ v. one_unit 16 (unit_at (block_at x y log2) (moves.Move v))) (filter (λ v. is_copy_by prev now size (leaf_as_coded (unit_at (block_at x y log2) (moves.Move v))) v) vs))
   moves_are before x y log2 [] short = tt
-  moves_are before x y log2 (v ∷ vs) short = go (is_copy_by prev now size (leaf_as_coded (unit_at x y log2 (moves.Move v))) v) refl (moves_are before x y log2 vs short.1)
+  moves_are before x y log2 (v ∷ vs) short = go (is_copy_by prev now size (leaf_as_coded (unit_at (block_at x y log2) (moves.Move v))) v) refl (moves_are before x y log2 vs short.1)
     where
       made : List Vector → List MovePlan
-      made ws = map (λ w. one_unit 16 (unit_at x y log2 (moves.Move w))) ws
+      made ws = map (λ w. one_unit 16 (unit_at (block_at x y log2) (moves.Move w))) ws
 
       found : List Vector
-      found = filter (λ w. is_copy_by prev now size (leaf_as_coded (unit_at x y log2 (moves.Move w))) w) vs
+      found = filter (λ w. is_copy_by prev now size (leaf_as_coded (unit_at (block_at x y log2) (moves.Move w))) w) vs
 
-      go : (t : Bool) → is_copy_by prev now size (leaf_as_coded (unit_at x y log2 (moves.Move v))) v ≡ t → AllByRecursion (IsOneChosen prev now size before x y log2) (made found)
+      go : (t : Bool) → is_copy_by prev now size (leaf_as_coded (unit_at (block_at x y log2) (moves.Move v))) v ≡ t → AllByRecursion (IsOneChosen prev now size before x y log2) (made found)
           → AllByRecursion (IsOneChosen prev now size before x y log2) (made (cond t (v ∷ found) found))
       go true e later =
-          let f : IsFoundAt prev now size (leaf_as_coded (unit_at x y log2 (moves.Move v))) v = found_at prev now size (leaf_as_coded (unit_at x y log2 (moves.Move v))) v e in
+          let f : IsFoundAt prev now size (leaf_as_coded (unit_at (block_at x y log2) (moves.Move v))) v = found_at prev now size (leaf_as_coded (unit_at (block_at x y log2) (moves.Move v))) v e in
           (record { kind = moves.Move v; one = refl; stand = (short.0, f.source); copied = f.block }, later)
       go false e later = later
 
   intra_are : (before : List Moving) (x y log2 : ℕ) (modes : List ℕ) → AllByRecursion (λ m. m < 35) modes
-      → AllByRecursion (IsOneChosen prev now size before x y log2) (map (λ mode. one_unit (intra_cost size now (leaf_with x y log2 (Intra mode))) (unit_at x y log2 (moves.Intra mode))) modes)
+      → AllByRecursion (IsOneChosen prev now size before x y log2) (map (λ mode. one_unit (intra_cost size now (leaf_with (block_at x y log2) (Intra mode))) (unit_at (block_at x y log2) (moves.Intra mode))) modes)
   intra_are before x y log2 [] h = tt
   intra_are before x y log2 (m ∷ modes) h = (record { kind = moves.Intra m; one = refl; stand = h.0; copied = tt }, intra_are before x y log2 modes h.1)
 
-  unit_plan_is : (before : List Moving) (x y log2 : ℕ) → IsOneChosen prev now size before x y log2 (unit_plan prev now size effort before x y log2)
+  unit_plan_is : (before : List Moving) (x y log2 : ℕ) → IsOneChosen prev now size before x y log2 (unit_plan prev now size effort before (block_at x y log2))
   unfolding unit_plan
   unit_plan_is before x y log2 =
-      let skips : List MovePlan = skip_plans prev now size before (unit_at x y log2 moves.Skip) in
-      let moved : List MovePlan = move_plans prev now size x y log2 in
+      let skips : List MovePlan = skip_plans prev now size before (unit_at (block_at x y log2) moves.Skip) in
+      let moved : List MovePlan = move_plans prev now size (block_at x y log2) in
       best_is (IsOneChosen prev now size before x y log2) _ _
       (all_append (IsOneChosen prev now size before x y log2) (skips ++ moved) _
       (all_append (IsOneChosen prev now size before x y log2) skips moved (skips_are before x y log2) (moves_are before x y log2 tried_vectors tried_short))
@@ -161,7 +161,7 @@ fair_one prev now size before x y log2 p h = record {
 fair-append : (prev now : Picture) (size : Size) (before : List Moving) (a b : List MoveLeaf) → AreFair prev now size before a → AreFair prev now size (coded_after before a) b → AreFair prev now size before (a ++ b)
 fair-append prev now size before a b h k = record { stand = stand-append size before a b h.stand k.stand; copied = copied-append prev now before a b h.copied k.copied }
 
-one_of_plan : (prev now : Picture) (size : Size) (before : List Moving) (x y log2 : ℕ) (p : MovePlan) → IsOneChosen prev now size before x y log2 p → IsOneUnit x y log2 p.units
+one_of_plan : (prev now : Picture) (size : Size) (before : List Moving) (x y log2 : ℕ) (p : MovePlan) → IsOneChosen prev now size before x y log2 p → IsOneUnit (block_at x y log2) p.units
 one_of_plan prev now size before x y log2 p h = record { kind = h.kind; one = h.one }
 
 module _ (prev now : Picture) (size : Size) (effort : ℕ) where
@@ -174,12 +174,12 @@ module _ (prev now : Picture) (size : Size) (effort : ℕ) where
   plan_is zero x y before = (tree_there (is_inside size x y), fair_there (is_inside size x y))
     where
       one : MovePlan
-      one = unit_plan prev now size effort before x y 3
+      one = unit_plan prev now size effort before (block_at x y 3)
 
       is : IsOneChosen prev now size before x y 3 one
       is = unit_plan_is prev now size effort before x y 3
 
-      tree_there : (b : Bool) → MatchBool b (IsOneUnit x y 3 (cond b one no_units).units) ((cond b one no_units).units ≡ [])
+      tree_there : (b : Bool) → MatchBool b (IsOneUnit (block_at x y 3) (cond b one no_units).units) ((cond b one no_units).units ≡ [])
       tree_there true = one_of_plan prev now size before x y 3 one is
       tree_there false = refl
 
@@ -199,7 +199,7 @@ module _ (prev now : Picture) (size : Size) (effort : ℕ) where
       Lower = (px py : ℕ) (b : List Moving) → Lawful depth px py b (go px py b)
 
       one : MovePlan
-      one = unit_plan prev now size effort before x y (4 + depth)
+      one = unit_plan prev now size effort before (block_at x y (4 + depth))
 
       split : MovePlan
       split = split_plan go half x y before
@@ -241,9 +241,9 @@ module _ (prev now : Picture) (size : Size) (effort : ℕ) where
           (lower (x + half) (y + half) (coded_after before ((a.units ++ b.units) ++ c.units))).1
 
       tree_there : Lower → (p q : Bool)
-          → MatchBool p (MatchBool q (IsOneUnit x y (4 + depth) (cond (not p) no_units (cond (not q) split (cheaper one split))).units ⊎ AreFourParts (IsUnitTree size depth) half x y (cond (not p) no_units (cond (not q) split (cheaper one split))).units)
+          → MatchBool p (MatchBool q (IsOneUnit (block_at x y (4 + depth)) (cond (not p) no_units (cond (not q) split (cheaper one split))).units ⊎ AreFourParts (IsUnitTree size depth) half x y (cond (not p) no_units (cond (not q) split (cheaper one split))).units)
           (AreFourParts (IsUnitTree size depth) half x y (cond (not p) no_units (cond (not q) split (cheaper one split))).units)) ((cond (not p) no_units (cond (not q) split (cheaper one split))).units ≡ [])
-      tree_there lower true true = cheaper_is (λ p. IsOneUnit x y (4 + depth) p.units ⊎ AreFourParts (IsUnitTree size depth) half x y p.units) one split (inl (one_of_plan prev now size before x y (4 + depth) one is)) (inr (four lower))
+      tree_there lower true true = cheaper_is (λ p. IsOneUnit (block_at x y (4 + depth)) p.units ⊎ AreFourParts (IsUnitTree size depth) half x y p.units) one split (inl (one_of_plan prev now size before x y (4 + depth) one is)) (inr (four lower))
       tree_there lower true false = four lower
       tree_there lower false q = refl
 

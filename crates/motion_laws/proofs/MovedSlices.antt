@@ -13,14 +13,14 @@ use Rattle.h265_model.specs.Raster.{planes}
 use Rattle.h265_model.specs.NalUnits.{NalUnit, IsNalUnit, escape, start_code, nal_unit_bytes}
 use Rattle.h265_model.specs.SliceHead.{Head, IsHead, head_bits, read_head}
 use Rattle.h265_model.specs.Contexts.{row_start}
-use Rattle.h265_model.specs.Tree.{Source, IsSource}
+use Rattle.h265_model.specs.Tree.{moving, Source, IsSource}
 use Rattle.h265_model.specs.Stream.{slice_kind, nal_header, but_last, slice_piece}
 use Rattle.h265_model.specs.Decode.{Decoded, ok_of}
 use Rattle.h265_model.specs.Motion.{Moving}
 use Rattle.h265_model.specs.Tree.{ReadUnit, ReadCtu, units_of, units_after, moving_of}
-use Rattle.h265_model.specs.Slice.{slice_row_read, row_of_bytes, handed_on, rows_read, slice_read}
+use Rattle.h265_model.specs.Slice.{row_code, contexts_at, slice_row_read, row_of_bytes, handed_on, rows_read, slice_read}
 use Rattle.h265_model.specs.Rebuild.{rebuild}
-use Rattle.h265_model.specs.Walks.{move_unit, coded_first, contexts_of, code_of}
+use Rattle.h265_model.specs.Tree.{move_unit, coded_first}
 use Rattle.h265_model.specs.Decode.{Stand, referred, is_next, whole, slice_step, step}
 use Rattle.h265_model.proofs.ListParts.{drop_front}
 use Rattle.h265_laws.proofs.EndsLaw.{Ends, code_ends, ends_some, ends_append, ends_well, escape_append, escape_rows, rows_end}
@@ -63,7 +63,7 @@ unit_is idr poc row rows each =
 -- ---- a picture
 
 abbrev pub codes_of : Size → Bool → Source → List (List MoveLeaf) → ℕ → List ℕ
-codes_of size idr source units row = code_of (slice_kind idr) (move_unit (slice_kind idr) source) size units row
+codes_of size idr source units row = row_code (slice_kind idr) (moving (move_unit (slice_kind idr) source)) size units row
 
 abbrev pub rows_of : Size → Bool → Source → List (List MoveLeaf) → List (List ℕ)
 rows_of size idr source units = map (codes_of size idr source units) (below (ctus size.h))
@@ -143,17 +143,17 @@ module _ (size : Size) (idr : Bool) (poc : ℕ) (source : Source) (units : List 
       ∙ (ap (map moving_of) (row_read_on (slice_kind idr) size source units row) ∙ coded_is source units ((row + 1) * w)))
 
   one_row : (row : ℕ) (handed : List ℕ) → row < ctus size.h
-      → row_start (slice_kind idr) (ctus size.w) row handed ≡ contexts_of (slice_kind idr) (move_unit (slice_kind idr) source) size units row
+      → row_start (slice_kind idr) (ctus size.w) row handed ≡ contexts_at (slice_kind idr) (moving (move_unit (slice_kind idr) source)) size units row
       → row_of_bytes (slice_row_read (slice_kind idr) size row (coded_first units (row * ctus size.w))) (row_start (slice_kind idr) (ctus size.w) row handed) (codes row) ≡ Some (values row)
   unfolding values
   one_row row handed less starts =
       let kind : SliceKind = slice_kind idr in
-      let c : List ℕ = contexts_of kind (move_unit kind source) size units row in
+      let c : List ℕ = contexts_at kind (moving (move_unit kind source)) size units row in
       ap (λ (d : List ℕ). row_of_bytes (slice_row_read kind size row (coded_first units (row * ctus size.w))) d (codes row)) starts
       ∙ row_is_read (slice_row_read kind size row (coded_first units (row * ctus size.w))) _ c _ (slice_form kind size source is.source_is units row sides is.fit.wide less) (contexts_are kind (move_unit kind source) size units row)
       (slice_row kind size source units row (ctus size.w * ctus size.h) (rows_fit row (ctus size.w) (ctus size.h) less) is.lawful is.source_is)
 
-  next_row : (row : ℕ) → row_start (slice_kind idr) (ctus size.w) (suc row) (handed_on (values row)) ≡ contexts_of (slice_kind idr) (move_unit (slice_kind idr) source) size units (suc row)
+  next_row : (row : ℕ) → row_start (slice_kind idr) (ctus size.w) (suc row) (handed_on (values row)) ≡ contexts_at (slice_kind idr) (moving (move_unit (slice_kind idr) source)) size units (suc row)
   unfolding values
   next_row row = next_start (slice_kind idr) size source units row
 
@@ -162,7 +162,7 @@ module _ (size : Size) (idr : Bool) (poc : ℕ) (source : Source) (units : List 
   units_from_row row (suc n) = units_of (values row) ++ units_from_row (row + 1) n
 
   rows_are_read : (n row : ℕ) (handed : List ℕ) → row + n ≤ ctus size.h
-      → row_start (slice_kind idr) (ctus size.w) row handed ≡ contexts_of (slice_kind idr) (move_unit (slice_kind idr) source) size units row
+      → row_start (slice_kind idr) (ctus size.w) row handed ≡ contexts_at (slice_kind idr) (moving (move_unit (slice_kind idr) source)) size units row
       → rows_read (slice_kind idr) size row (coded_first units (row * ctus size.w)) handed (map codes (range_with_len row n)) ≡ Some (units_from_row row n)
   unfolding rows_read units_from_row
   rows_are_read zero row handed fits starts = refl
@@ -171,8 +171,8 @@ module _ (size : Size) (idr : Bool) (poc : ℕ) (source : Source) (units : List 
       let before : List Moving = coded_first units (row * ctus size.w) in
       let more : List (List ℕ) = map codes (range_with_len (row + 1) n) in
       let one_more : row + 1 ≡ suc row = omega arith in
-      let next : row_start kind (ctus size.w) (row + 1) (handed_on (values row)) ≡ contexts_of kind (move_unit kind source) size units (row + 1) =
-      subst (λ (r : ℕ). row_start kind (ctus size.w) r (handed_on (values row)) ≡ contexts_of kind (move_unit kind source) size units r) (sym one_more) (next_row row) in
+      let next : row_start kind (ctus size.w) (row + 1) (handed_on (values row)) ≡ contexts_at kind (moving (move_unit kind source)) size units (row + 1) =
+      subst (λ (r : ℕ). row_start kind (ctus size.w) r (handed_on (values row)) ≡ contexts_at kind (moving (move_unit kind source)) size units r) (sym one_more) (next_row row) in
       ap (λ (o : Option (List ReadCtu)). and_then o (λ read. and_then (rows_read kind size (row + 1) (units_after before (units_of read)) (handed_on read) more) (λ others. Some (units_of read ++ others)))) (one_row row handed (omega arith) starts)
       ∙ (ap (λ (b : List Moving). and_then (rows_read kind size (row + 1) b (handed_on (values row)) more) (λ others. Some (units_of (values row) ++ others))) (next_before row)
       ∙ ap (λ (o : Option (List ReadUnit)). and_then o (λ others. Some (units_of (values row) ++ others))) (rows_are_read n (row + 1) (handed_on (values row)) (omega arith) next))
@@ -198,7 +198,7 @@ module _ (size : Size) (idr : Bool) (poc : ℕ) (source : Source) (units : List 
       turned a b = omega arith
 
   data_is_read : slice_read (slice_kind idr) size (head_of idr poc rows).offsets (flat_map (λ r. r) rows) ≡ Some (read_first source units (ctus size.w * ctus size.h))
-  unfolding row_start contexts_of
+  unfolding row_start contexts_at
   data_is_read = go (ctus size.h) is.fit.high refl ∙ ap (λ (l : List ReadUnit). Some l) all_units
     where
       none : 0 * ctus size.w ≡ 0

@@ -15,7 +15,7 @@ use Rattle.h265_model.specs.declared.moves.MoveKind.{MoveKind}
 use Rattle.h265_model.specs.declared.moves.MoveKind.TheVariants as moves
 use Rattle.h265_model.specs.Plain.{Size, Picture, coded, ctus, below, joined}
 use Rattle.h265_model.specs.Bits.{◌>>-◌}
-use Rattle.h265_model.specs.Settings.{Settings}
+use Rattle.h265_model.specs.Settings.{has_segments, Settings}
 use Rattle.h265_model.specs.Raster.{Raster, IsRaster, planes, stored_picture}
 use Rattle.h265_model.specs.NalUnits.{NalUnit, nal_unit_bytes, stream_bytes}
 use Rattle.h265_model.specs.Tree.{Source, is_skipped}
@@ -25,7 +25,7 @@ use Rattle.h265_model.specs.Decode.{Decoded}
 use Rattle.h265_model.specs.Motion.{Moving, leaf_as_coded, as_coded, merge, moved, reaches, has_source, still, still_kind}
 use Rattle.h265_model.specs.MotionChoice.{moved_choices}
 use Rattle.h265_model.specs.Rebuild.{moved_samples, rebuild}
-use Rattle.h265_model.specs.ExtraStream.{moved_units, extra_piece}
+use Rattle.h265_model.specs.Stream.{moved_units, picture_units, picture_piece}
 use Rattle.h265_model.specs.Decode.{Stand, read_units}
 use Rattle.h265_model.proofs.Squares.{same_places}
 use Rattle.h265_laws.proofs.ChoiceLaw.{IsFair}
@@ -45,6 +45,7 @@ use Rattle.unit_laws.proofs.UnitRebuild.{pictures_are_rebuilt}
 use Rattle.motion_laws.specs.Laws.{EachMovedStreamIsDecoded}
 use Rattle.motion_laws.proofs.MovedChoice.{chosen_length, chosen_lawful, chosen_stand, chosen_copied}
 use Rattle.motion_laws.proofs.MovedSlices.{slice_unit, codes_of, rows_of, piece_is_unit, rows_end_well, slice_is_unit, decoded, picture_is_read}
+use Rattle.h265_model.specs.declared.extra.Extra.{Extra}
 
 -- ---- copies of a picture that is stored
 
@@ -57,13 +58,13 @@ reach limit n x i (negsuc v) h less =
     let b : x - suc v + n ≤ limit = leb-true _ _ p.1 in
     omega arith
 
-moved_stored : (size : Size) (prev : Picture) (leaf : Leaf) (v : Vector) (c : ℕ) → c < 3 → has_source size leaf.x leaf.y leaf.log2 v ≡ true
+moved_stored : (size : Size) (prev : Picture) (leaf : Leaf) (v : Vector) (c : ℕ) → c < 3 → has_source size leaf.block v ≡ true
     → moved_samples (stored_picture size (planes size prev)) leaf v c ≡ moved_samples prev leaf v c
 unfolding moved_samples has_source
 moved_stored size prev leaf v c small h =
-    let p = and_parts (reaches (coded size.w) (2 ^ leaf.log2) leaf.x v.x) (reaches (coded size.h) (2 ^ leaf.log2) leaf.y v.y) h in
-    same_places (leaf_side leaf) (leaf_side leaf) (λ x y. stored_picture size (planes size prev) c (moved (leaf.x + x) v.x) (moved (leaf.y + y) v.y)) (λ x y. prev c (moved (leaf.x + x) v.x) (moved (leaf.y + y) v.y))
-    (λ x y hx hy. stored_is size prev c (moved (leaf.x + x) v.x) (moved (leaf.y + y) v.y) small (reach (coded size.w) (leaf_side leaf) leaf.x x v.x p.0 hx) (reach (coded size.h) (leaf_side leaf) leaf.y y v.y p.1 hy))
+    let p = and_parts (reaches (coded size.w) (2 ^ leaf.block.log2) leaf.block.x v.x) (reaches (coded size.h) (2 ^ leaf.block.log2) leaf.block.y v.y) h in
+    same_places (leaf_side leaf) (leaf_side leaf) (λ x y. stored_picture size (planes size prev) c (moved (leaf.block.x + x) v.x) (moved (leaf.block.y + y) v.y)) (λ x y. prev c (moved (leaf.block.x + x) v.x) (moved (leaf.block.y + y) v.y))
+    (λ x y hx hy. stored_is size prev c (moved (leaf.block.x + x) v.x) (moved (leaf.block.y + y) v.y) small (reach (coded size.w) (leaf_side leaf) leaf.block.x x v.x p.0 hx) (reach (coded size.h) (leaf_side leaf) leaf.block.y y v.y p.1 hy))
 
 copied_stored : (size : Size) (prev now : Picture) (before : List Moving) (units : List MoveLeaf) → CanStandAll P size before units → AreCopied prev now before units
     → AreCopied (stored_picture size (planes size prev)) now before units
@@ -71,8 +72,8 @@ copied_stored size prev now before [] stand copied = tt
 copied_stored size prev now before (unit ∷ units) stand copied =
     (go unit.kind stand.0 copied.0, copied_stored size prev now (before ++ as_coded before unit ∷ []) units stand.1 copied.1)
   where
-    go : (k : MoveKind) → CanStand P size before unit.x unit.y unit.log2 k → IsCopied prev now before unit k → IsCopied (stored_picture size (planes size prev)) now before unit k
-    go moves.Skip s h = λ c small. moved_stored size prev (leaf_as_coded unit) (merge before unit.x unit.y unit.log2) c small s ∙ h c small
+    go : (k : MoveKind) → CanStand P size before unit.block k → IsCopied prev now before unit k → IsCopied (stored_picture size (planes size prev)) now before unit k
+    go moves.Skip s h = λ c small. moved_stored size prev (leaf_as_coded unit) (merge before unit.block) c small s ∙ h c small
     go (moves.Move v) s h = λ c small. moved_stored size prev (leaf_as_coded unit) v c small s.1 ∙ h c small
     go moves.Pcm s h = tt
     go (moves.Intra mode) s h = tt
@@ -181,24 +182,28 @@ moved_is_read settings fit some n number before raster stand rest is behind =
           ∙ ap (λ (r : Raster). read_units size false (number + 1) (now_whole whole_now) rest >>- λ others. Ok (r ∷ others)) (cropped size raster is some);
     }
 
-moved_are_read : (settings : Settings) → IsFit settings.size → 0 < settings.size.w → AreRead settings Moves (moved_slices settings)
-unfolding extra_piece stream_bytes
-moved_are_read settings fit some = record {
+moved_are_read : (settings : Settings) → settings.extra ≡ Moves → IsFit settings.size → 0 < settings.size.w → AreRead settings (moved_slices settings)
+unfolding picture_piece picture_units stream_bytes
+moved_are_read settings kind fit some = record {
   pieces = λ n before raster is.
-      piece_is_unit (is_idr settings.key n) (order_count settings.key n % 256) (codes_of settings.size (is_idr settings.key n) (source_in settings raster) (units_in settings (is_idr settings.key n) before raster)) (below (ctus settings.size.h))
+      ap
+      (λ (x : Extra). picture_units x settings (is_idr settings.key n) (order_count settings.key n % 256) (reference (is_idr settings.key n) settings.size before) (picture_of settings raster)) kind
+      ∙ (piece_is_unit (is_idr settings.key n) (order_count settings.key n % 256) (codes_of settings.size (is_idr settings.key n) (source_in settings raster) (units_in settings (is_idr settings.key n) before raster)) (below (ctus settings.size.h))
       (rows_end_well settings.size (is_idr settings.key n) (source_in settings raster) (units_in settings (is_idr settings.key n) before raster) fit (source_is settings.size (picture_of settings raster) (picture_is settings.size raster is))
       (many_units settings (is_idr settings.key n) before raster) (units_lawful settings (is_idr settings.key n) before raster fit))
-      ∙ sym (append-nil (nal_unit_bytes (unit_with settings (is_idr settings.key n) (order_count settings.key n % 256) before raster)));
+      ∙ sym (append-nil (nal_unit_bytes (unit_with settings (is_idr settings.key n) (order_count settings.key n % 256) before raster))));
   are = λ n before raster is. (
     slice_is_unit settings.size (is_idr settings.key n) (source_in settings raster) (units_in settings (is_idr settings.key n) before raster) fit (source_is settings.size (picture_of settings raster) (picture_is settings.size raster is))
         (many_units settings (is_idr settings.key n) before raster) (units_lawful settings (is_idr settings.key n) before raster fit) (order_count settings.key n % 256),
     tt,
   );
-  read = λ n number before raster stand rest is behind none. moved_is_read settings fit some n number before raster stand rest is behind;
+  read = λ n number before raster stand rest is behind none.
+      subst (λ (b : Bool). ReadsOn settings b n number raster stand (moved_slices settings n before raster) rest) (sym (ap has_segments kind))
+      (moved_is_read settings fit some n number before raster stand rest is behind);
 }
 
 pub moved_streams_are_decoded : EachMovedStreamIsDecoded
-moved_streams_are_decoded settings rasters size_is are =
-    stream_is_decoded settings Moves (moved_slices settings)
-    (moved_are_read settings (size_fits settings.size size_is) (in_limits settings.size size_is).w_low)
-    (read_params-param_units settings.size false size_is (λ e. absurd (cc))) rasters are
+moved_streams_are_decoded settings rasters kind size_is are =
+    stream_is_decoded settings (moved_slices settings)
+    (moved_are_read settings kind (size_fits settings.size size_is) (in_limits settings.size size_is).w_low)
+    (read_params-param_units settings.size (has_segments settings.extra) size_is (λ e. absurd (let f : has_segments settings.extra ≡ false = ap has_segments kind in cc))) rasters are

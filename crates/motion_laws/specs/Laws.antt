@@ -7,7 +7,7 @@ use Rattle.h265_model.specs.Plain.{Size, Picture, joined}
 use Rattle.h265_model.specs.Raster.{Raster, IsRaster}
 use Rattle.h265_model.specs.Settings.{Settings, is_size}
 use Rattle.h265_model.specs.MotionChoice.{moved_choices}
-use Rattle.h265_model.specs.ExtraStream.{extra_stream}
+use Rattle.h265_model.specs.Stream.{stream_of}
 use Rattle.h265_model.specs.Decode.{decode}
 use Rattle.unit_laws.specs.Laws.{AreLawfulUnits, AreCopied}
 
@@ -22,5 +22,5 @@ EachMovedChoiceIsLawful =
 -- the stream of a list of pictures with moved blocks is decoded to them
 abbrev pub EachMovedStreamIsDecoded : Type 0
 EachMovedStreamIsDecoded =
-    (settings : Settings) (pictures : List Raster) → IsTrue (is_size settings.size) → AllByRecursion (IsRaster settings.size) pictures →
-    decode (extra_stream settings Moves pictures) ≡ Ok (settings.size, pictures)
+    (settings : Settings) (pictures : List Raster) → settings.extra ≡ Moves → IsTrue (is_size settings.size) → AllByRecursion (IsRaster settings.size) pictures →
+    decode (stream_of settings pictures) ≡ Ok (settings.size, pictures)

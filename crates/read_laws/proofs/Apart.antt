@@ -6,7 +6,7 @@ use Rattle.std.proofs.lemmas.List.Folds.{list_any-append}
 use Rattle.std.proofs.lemmas.Nat.{div-add-mod'}
 use Rattle.h265_model.specs.declared.leaf.SliceKind.{SliceKind}
 use Rattle.h265_model.specs.declared.leaf.Leaf.{Leaf}
-use Rattle.h265_model.specs.Plain.{Size, ctus, joined, leaf_with, ctu_x, ctu_y}
+use Rattle.h265_model.specs.Plain.{block_at, Size, ctus, joined, leaf_with, ctu_x, ctu_y}
 use Rattle.h265_model.specs.Predict.{is_inside}
 use Rattle.h265_model.specs.Tree.{is_whole, IsTree, IsLawfulTree, IsCodingUnit, AreQuarters}
 use Rattle.h265_model.specs.Plain.{covers}
@@ -36,9 +36,9 @@ apart-append before (leaf ∷ a) b h k = (h.0, apart-append (before ++ leaf ∷ 
 
 -- ---- the leaves of a block lie in it
 
-one_within : (x y log2 px py : ℕ) (leaves : List Leaf) → IsCodingUnit x y log2 leaves → is_covered leaves px py ≡ true → IsWithin x y (2 ^ log2) px py
+one_within : (x y log2 px py : ℕ) (leaves : List Leaf) → IsCodingUnit (block_at x y log2) leaves → is_covered leaves px py ≡ true → IsWithin x y (2 ^ log2) px py
 one_within x y log2 px py leaves u h =
-    let leaf : Leaf = leaf_with x y log2 u.kind in
+    let leaf : Leaf = leaf_with (block_at x y log2) u.kind in
     let one : (covers px py leaf || false) ≡ true = sym (ap (λ (l : List Leaf). is_covered l px py) u.one) ∙ h in
     covers_parts leaf px py (⊎_elim (λ k. k) (λ k. absurd (cc)) (or_cases (covers px py leaf) false one))
 
@@ -69,7 +69,7 @@ within_as x y x' y' n px py ex ey w = subst (λ (u : ℕ). IsWithin u y' n px py
 tree_within : (size : Size) (depth x y : ℕ) (leaves : List Leaf) → IsTree size depth x y leaves → (px py : ℕ) → is_covered leaves px py ≡ true → IsWithin x y (2 ^ (3 + depth)) px py
 tree_within size zero x y leaves t px py h = go (is_inside size x y) t
   where
-    go : (b : Bool) → MatchBool b (IsCodingUnit x y 3 leaves) (leaves ≡ []) → IsWithin x y (2 ^ 3) px py
+    go : (b : Bool) → MatchBool b (IsCodingUnit (block_at x y 3) leaves) (leaves ≡ []) → IsWithin x y (2 ^ 3) px py
     go true u = one_within x y 3 px py leaves u h
     go false none = none_within x y (2 ^ 3) px py leaves none h
 tree_within size (suc depth) x y leaves t px py h = go (is_inside size x y) (is_whole size (2 * half) x y) t (λ qx qy l q k. tree_within size depth qx qy l q px py k)
@@ -103,10 +103,10 @@ tree_within size (suc depth) x y leaves t px py h = go (is_inside size x y) (is_
         (λ d. quarter_in x y n half half half px py double (omega arith) (omega arith) (lower (x + half) (y + half) q.fourth q.bottom_right d))
         (covered_by ((q.first ++ q.second) ++ q.third) q.fourth px py all)
 
-    unit : IsCodingUnit x y (4 + depth) leaves → IsWithin x y n px py
+    unit : IsCodingUnit (block_at x y (4 + depth)) leaves → IsWithin x y n px py
     unit u = subst (λ (m : ℕ). IsWithin x y m px py) (one_more depth) (one_within x y (4 + depth) px py leaves u h)
 
-    go : (a b : Bool) → MatchBool a (MatchBool b (IsCodingUnit x y (4 + depth) leaves ⊎ AreQuarters (IsTree size depth) half x y leaves) (AreQuarters (IsTree size depth) half x y leaves)) (leaves ≡ []) → Lower → IsWithin x y n px py
+    go : (a b : Bool) → MatchBool a (MatchBool b (IsCodingUnit (block_at x y (4 + depth)) leaves ⊎ AreQuarters (IsTree size depth) half x y leaves) (AreQuarters (IsTree size depth) half x y leaves)) (leaves ≡ []) → Lower → IsWithin x y n px py
     go false b none lower = none_within x y n px py leaves none h
     go true false q lower = four q lower
     go true true u lower = ⊎_elim unit (λ q. four q lower) u
@@ -117,14 +117,14 @@ tree_within size (suc depth) x y leaves t px py h = go (is_inside size x y) (is_
 abbrev IsClear : List Leaf → ℕ → ℕ → ℕ → Type 0
 IsClear before x y n = (px py : ℕ) → IsWithin x y n px py → is_covered before px py ≡ false
 
-one_apart : (x y log2 : ℕ) (before leaves : List Leaf) → IsCodingUnit x y log2 leaves → IsClear before x y (2 ^ log2) → AreApart before leaves
+one_apart : (x y log2 : ℕ) (before leaves : List Leaf) → IsCodingUnit (block_at x y log2) leaves → IsClear before x y (2 ^ log2) → AreApart before leaves
 one_apart x y log2 before leaves u clear =
-    subst (AreApart before) (sym u.one) ((λ px py c. clear px py (covers_parts (leaf_with x y log2 u.kind) px py c)), tt)
+    subst (AreApart before) (sym u.one) ((λ px py c. clear px py (covers_parts (leaf_with (block_at x y log2) u.kind) px py c)), tt)
 
 tree_apart : (size : Size) (depth x y : ℕ) (before leaves : List Leaf) → IsTree size depth x y leaves → IsClear before x y (2 ^ (3 + depth)) → AreApart before leaves
 tree_apart size zero x y before leaves t clear = go (is_inside size x y) t
   where
-    go : (b : Bool) → MatchBool b (IsCodingUnit x y 3 leaves) (leaves ≡ []) → AreApart before leaves
+    go : (b : Bool) → MatchBool b (IsCodingUnit (block_at x y 3) leaves) (leaves ≡ []) → AreApart before leaves
     go true u = one_apart x y 3 before leaves u clear
     go false none = subst (AreApart before) (sym none) tt
 tree_apart size (suc depth) x y before leaves t clear = go (is_inside size x y) (is_whole size (2 * half) x y) t (λ qx qy b l q k. tree_apart size depth qx qy b l q k)
@@ -197,10 +197,10 @@ tree_apart size (suc depth) x y before leaves t clear = go (is_inside size x y) 
         (lower x (y + half) (before ++ (a ++ b)) c q.bottom_left c_clear))
         (lower (x + half) (y + half) (before ++ ((a ++ b) ++ c)) q.fourth q.bottom_right d_clear))
 
-    unit : IsCodingUnit x y (4 + depth) leaves → AreApart before leaves
+    unit : IsCodingUnit (block_at x y (4 + depth)) leaves → AreApart before leaves
     unit u = one_apart x y (4 + depth) before leaves u (λ px py w. clear px py (subst (λ (m : ℕ). IsWithin x y m px py) (one_more depth) w))
 
-    go : (a b : Bool) → MatchBool a (MatchBool b (IsCodingUnit x y (4 + depth) leaves ⊎ AreQuarters (IsTree size depth) half x y leaves) (AreQuarters (IsTree size depth) half x y leaves)) (leaves ≡ []) → Lower → AreApart before leaves
+    go : (a b : Bool) → MatchBool a (MatchBool b (IsCodingUnit (block_at x y (4 + depth)) leaves ⊎ AreQuarters (IsTree size depth) half x y leaves) (AreQuarters (IsTree size depth) half x y leaves)) (leaves ≡ []) → Lower → AreApart before leaves
     go false b none lower = subst (AreApart before) (sym none) tt
     go true false q lower = four q lower
     go true true u lower = ⊎_elim unit (λ q. four q lower) u

@@ -73,13 +73,13 @@ read_cover kind size units some is =
 
 -- ---- two canvases
 
-pub block_same : (size : Size) (prev a b : Picture) (leaf : Leaf) (c : Content) (component : ℕ) → ((qx qy : ℕ) → is_available size leaf.x leaf.y qx qy ≡ true → a component qx qy ≡ b component qx qy)
+pub block_same : (size : Size) (prev a b : Picture) (leaf : Leaf) (c : Content) (component : ℕ) → ((qx qy : ℕ) → is_available size leaf.block.x leaf.block.y qx qy ≡ true → a component qx qy ≡ b component qx qy)
     → block_of size prev a leaf c component ≡ block_of size prev b leaf c component
 unfolding block_of
 block_same size prev a b leaf (Copied v) component near = refl
 block_same size prev a b leaf (Moved v) component near = refl
 block_same size prev a b leaf (Samples planes) component near = refl
-block_same size prev a b leaf (Levels mode planes) component near = ap (λ (p : List ℕ). sums p (get_or planes component [])) (prediction_same size a b mode component leaf.x leaf.y leaf.log2 near)
+block_same size prev a b leaf (Levels mode planes) component near = ap (λ (p : List ℕ). sums p (get_or planes component [])) (prediction_same size a b mode component leaf.block.x leaf.block.y leaf.block.log2 near)
 
 unit_same : (size : Size) (prev a b : Picture) (before : List Leaf) (unit : ReadUnit) → IsPlaced size before (leaf_of unit) → Agree a b before → Agree (with_unit size prev a unit) (with_unit size prev b unit) (before ++ leaf_of unit ∷ [])
 unit_same size prev a b before unit placed agree = record { each = λ component x y small covered. at component x y small covered }
@@ -91,13 +91,13 @@ unit_same size prev a b before unit placed agree = record { each = λ component 
     at : (component x y : ℕ) → component < 3 → is_covered (before ++ leaf_of unit ∷ []) x y ≡ true → with_unit size prev a unit component x y ≡ with_unit size prev b unit component x y
     at component x y small covered = go (covers x y (leaf_of unit)) refl
       where
-        near : (qx qy : ℕ) → is_available size unit.x unit.y qx qy ≡ true → a component qx qy ≡ b component qx qy
+        near : (qx qy : ℕ) → is_available size unit.block.x unit.block.y qx qy ≡ true → a component qx qy ≡ b component qx qy
         near qx qy h = let p = and_parts _ _ h in agree.each component qx qy small (placed.behind.each qx qy p.0 (ltb-true _ _ p.1))
 
         go : (t : Bool) → covers x y (leaf_of unit) ≡ t
-            → cond t (get_or (block_of size prev a (leaf_of unit) unit.content component) ((y - unit.y) * leaf_side (leaf_of unit) + (x - unit.x)) 0) (a component x y)
-            ≡ cond t (get_or (block_of size prev b (leaf_of unit) unit.content component) ((y - unit.y) * leaf_side (leaf_of unit) + (x - unit.x)) 0) (b component x y)
-        go true e = ap (λ (l : List ℕ). get_or l ((y - unit.y) * leaf_side (leaf_of unit) + (x - unit.x)) 0) (block_same size prev a b (leaf_of unit) unit.content component near)
+            → cond t (get_or (block_of size prev a (leaf_of unit) unit.content component) ((y - unit.block.y) * leaf_side (leaf_of unit) + (x - unit.block.x)) 0) (a component x y)
+            ≡ cond t (get_or (block_of size prev b (leaf_of unit) unit.content component) ((y - unit.block.y) * leaf_side (leaf_of unit) + (x - unit.block.x)) 0) (b component x y)
+        go true e = ap (λ (l : List ℕ). get_or l ((y - unit.block.y) * leaf_side (leaf_of unit) + (x - unit.block.x)) 0) (block_same size prev a b (leaf_of unit) unit.content component near)
         go false e = agree.each component x y small (earlier x y (covers x y (leaf_of unit)) e (sym (list_any-append (covers x y) before (leaf_of unit ∷ [])) ∙ covered))
 
 units_same : (size : Size) (prev a b : Picture) (before : List Leaf) (units : List ReadUnit) → ArePlaced size before (leaves_from units) → Agree a b before

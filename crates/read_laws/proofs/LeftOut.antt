@@ -34,15 +34,15 @@ still_is v h =
 still_samples : (prev : Picture) (leaf : Leaf) (component : ℕ) → moved_samples prev leaf no_motion component ≡ samples_in prev leaf component
 unfolding moved_samples
 still_samples prev leaf component =
-    same_places (leaf_side leaf) (leaf_side leaf) (λ x y. prev component (leaf.x + x + 0) (leaf.y + y + 0)) (λ x y. prev component (leaf.x + x) (leaf.y + y))
-    (λ x y hx hy. ap (λ (n : ℕ). prev component n (leaf.y + y + 0)) (add-zero (leaf.x + x)) ∙ ap (λ (n : ℕ). prev component (leaf.x + x) n) (add-zero (leaf.y + y)))
+    same_places (leaf_side leaf) (leaf_side leaf) (λ x y. prev component (leaf.block.x + x + 0) (leaf.block.y + y + 0)) (λ x y. prev component (leaf.block.x + x) (leaf.block.y + y))
+    (λ x y hx hy. ap (λ (n : ℕ). prev component n (leaf.block.y + y + 0)) (add-zero (leaf.block.x + x)) ∙ ap (λ (n : ℕ). prev component (leaf.block.x + x) n) (add-zero (leaf.block.y + y)))
 
 still_at : (size : Size) (prev now : Picture) (leaf : Leaf) (c : Content) (component x y : ℕ) → is_still_copy c ≡ true → covers x y leaf ≡ true
-    → get_or (block_of size prev now leaf c component) ((y - leaf.y) * leaf_side leaf + (x - leaf.x)) 0 ≡ prev component x y
+    → get_or (block_of size prev now leaf c component) ((y - leaf.block.y) * leaf_side leaf + (x - leaf.block.x)) 0 ≡ prev component x y
 unfolding block_of
 still_at size prev now leaf (Copied v) component x y still inside =
-    ap (λ (w : Vector). get_or (moved_samples prev leaf w component) ((y - leaf.y) * leaf_side leaf + (x - leaf.x)) 0) (still_is v still)
-    ∙ (ap (λ (l : List ℕ). get_or l ((y - leaf.y) * leaf_side leaf + (x - leaf.x)) 0) (still_samples prev leaf component) ∙ at_samples prev leaf component x y inside)
+    ap (λ (w : Vector). get_or (moved_samples prev leaf w component) ((y - leaf.block.y) * leaf_side leaf + (x - leaf.block.x)) 0) (still_is v still)
+    ∙ (ap (λ (l : List ℕ). get_or l ((y - leaf.block.y) * leaf_side leaf + (x - leaf.block.x)) 0) (still_samples prev leaf component) ∙ at_samples prev leaf component x y inside)
 still_at size prev now leaf (Moved v) component x y still inside = absurd (cc)
 still_at size prev now leaf (Samples planes) component x y still inside = absurd (cc)
 still_at size prev now leaf (Levels mode planes) component x y still inside = absurd (cc)
@@ -65,16 +65,16 @@ neither_of false false h = (refl, refl)
 untouched_after : (size : Size) (prev now : Picture) (before : List Leaf) (unit : ReadUnit) → IsUntouched prev now before → IsUntouched prev (with_unit size prev now unit) (before ++ leaf_of unit ∷ [])
 untouched_after size prev now before unit h component x y small clear =
     let p = neither_of (is_covered before x y) (covers x y (leaf_of unit)) (sym (list_any-append (covers x y) before (leaf_of unit ∷ [])) ∙ clear) in
-    ap (λ (t : Bool). cond t (get_or (block_of size prev now (leaf_of unit) unit.content component) ((y - unit.y) * leaf_side (leaf_of unit) + (x - unit.x)) 0) (now component x y)) p.1
+    ap (λ (t : Bool). cond t (get_or (block_of size prev now (leaf_of unit) unit.content component) ((y - unit.block.y) * leaf_side (leaf_of unit) + (x - unit.block.x)) 0) (now component x y)) p.1
     ∙ h component x y small p.0
 
 drawn_same : (size : Size) (prev a b : Picture) (unit : ReadUnit) → IsSame a b → IsSame (with_unit size prev a unit) (with_unit size prev b unit)
 drawn_same size prev a b unit h component x y small = go (covers x y (leaf_of unit))
   where
-    go : (t : Bool) → cond t (get_or (block_of size prev a (leaf_of unit) unit.content component) ((y - unit.y) * leaf_side (leaf_of unit) + (x - unit.x)) 0) (a component x y)
-        ≡ cond t (get_or (block_of size prev b (leaf_of unit) unit.content component) ((y - unit.y) * leaf_side (leaf_of unit) + (x - unit.x)) 0) (b component x y)
+    go : (t : Bool) → cond t (get_or (block_of size prev a (leaf_of unit) unit.content component) ((y - unit.block.y) * leaf_side (leaf_of unit) + (x - unit.block.x)) 0) (a component x y)
+        ≡ cond t (get_or (block_of size prev b (leaf_of unit) unit.content component) ((y - unit.block.y) * leaf_side (leaf_of unit) + (x - unit.block.x)) 0) (b component x y)
     go true =
-        ap (λ (l : List ℕ). get_or l ((y - unit.y) * leaf_side (leaf_of unit) + (x - unit.x)) 0)
+        ap (λ (l : List ℕ). get_or l ((y - unit.block.y) * leaf_side (leaf_of unit) + (x - unit.block.x)) 0)
         (block_same size prev a b (leaf_of unit) unit.content component (λ qx qy k. h component qx qy small))
     go false = h component x y small
 
@@ -83,7 +83,7 @@ left_same : (size : Size) (prev a b : Picture) (before : List Leaf) (unit : Read
 left_same size prev a b before unit h untouched apart still component x y small = go (covers x y (leaf_of unit)) refl
   where
     go : (t : Bool) → covers x y (leaf_of unit) ≡ t
-        → a component x y ≡ cond t (get_or (block_of size prev b (leaf_of unit) unit.content component) ((y - unit.y) * leaf_side (leaf_of unit) + (x - unit.x)) 0) (b component x y)
+        → a component x y ≡ cond t (get_or (block_of size prev b (leaf_of unit) unit.content component) ((y - unit.block.y) * leaf_side (leaf_of unit) + (x - unit.block.x)) 0) (b component x y)
     go true e = h component x y small ∙ (untouched component x y small (apart x y e) ∙ sym (still_at size prev b (leaf_of unit) unit.content component x y still e))
     go false e = h component x y small
 

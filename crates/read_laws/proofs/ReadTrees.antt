@@ -6,7 +6,7 @@ use Rattle.h265_model.specs.declared.Place.TheVariants.{Context, Terminate}
 use Rattle.h265_model.specs.declared.leaf.SliceKind.{SliceKind}
 use Rattle.h265_model.specs.declared.leaf.SliceKind.TheVariants.{I, P}
 use Rattle.h265_model.specs.declared.leaf.Leaf.{Leaf}
-use Rattle.h265_model.specs.Plain.{Size, ctu_x, ctu_y}
+use Rattle.h265_model.specs.Plain.{block_at, Size, ctu_x, ctu_y}
 use Rattle.h265_model.specs.Engine.{Reader, ◌>>=◌, give, refuse, bin, samples}
 use Rattle.h265_model.specs.Predict.{is_inside}
 use Rattle.h265_model.specs.Modes.{mode_read}
@@ -29,7 +29,7 @@ no_copy : (kind : SliceKind) → IsNoCopy kind None
 no_copy I = refl
 no_copy P = tt
 
-yields_intra : (kind : SliceKind) (before : List Moving) (x y log2 : ℕ) → AreModes (leaves before) → Yields (IsSoundContent kind) (intra_read before x y log2)
+yields_intra : (kind : SliceKind) (before : List Moving) (x y log2 : ℕ) → AreModes (leaves before) → Yields (IsSoundContent kind) (intra_read before (block_at x y log2))
 yields_intra kind before x y log2 modes =
     yields_bind (λ m. m < 35) (IsSoundContent kind) (mode_read (candidates_at (leaves before) x y)) _ (yields_mode (candidates_at (leaves before) x y) (candidates_at_are (leaves before) x y modes)) (λ mode h.
     yields_expect (IsSoundContent kind) (Context 10) false _
@@ -41,46 +41,46 @@ yields_intra kind before x y log2 modes =
     yields_after (IsSoundContent kind) (component_read log2 mode 2 cr) _ (λ third.
     yields_give (IsSoundContent kind) (Levels mode (first ∷ second ∷ third ∷ [])) (record { copies = no_copy kind; mode = h })))))))))
 
-yields_content : (kind : SliceKind) (before : List Moving) (x y log2 : ℕ) → AreModes (leaves before) → Yields (IsSoundContent kind) (content_read before x y log2)
+yields_content : (kind : SliceKind) (before : List Moving) (x y log2 : ℕ) → AreModes (leaves before) → Yields (IsSoundContent kind) (content_read before (block_at x y log2))
 yields_content kind before x y log2 modes =
     let n : ℕ = 2 ^ log2 * 2 ^ log2 in
     yields_after (IsSoundContent kind) (bin Terminate) _ (λ pcm.
-    yields_cond (IsSoundContent kind) pcm (pcm_read n) (intra_read before x y log2)
+    yields_cond (IsSoundContent kind) pcm (pcm_read n) (intra_read before (block_at x y log2))
     (yields_after (IsSoundContent kind) (samples (n + n + n)) _ (λ list. yields_give (IsSoundContent kind) (Samples (thirds n list)) (record { copies = no_copy kind; mode = tt })))
     (yields_intra kind before x y log2 modes))
 
-yields_own : (kind : SliceKind) (before : List Moving) (x y log2 : ℕ) → AreModes (leaves before) → Yields (IsSoundContent kind) (own_read before x y log2)
+yields_own : (kind : SliceKind) (before : List Moving) (x y log2 : ℕ) → AreModes (leaves before) → Yields (IsSoundContent kind) (own_read before (block_at x y log2))
 yields_own kind before x y log2 modes =
-    yields_cond (IsSoundContent kind) (log2 == 3) (expect (Context 8) true (content_read before x y log2)) (content_read before x y log2)
+    yields_cond (IsSoundContent kind) (log2 == 3) (expect (Context 8) true (content_read before (block_at x y log2))) (content_read before (block_at x y log2))
     (yields_expect (IsSoundContent kind) (Context 8) true _ (yields_content kind before x y log2 modes)) (yields_content kind before x y log2 modes)
 
-yields_move : (before : List Moving) (x y log2 : ℕ) → Yields (IsSoundContent P) (move_read before x y log2)
+yields_move : (before : List Moving) (x y log2 : ℕ) → Yields (IsSoundContent P) (move_read before (block_at x y log2))
 yields_move before x y log2 =
     yields_expect (IsSoundContent P) (Context 8) true _ (yields_expect (IsSoundContent P) (Context 125) false _
-    (yields_after (IsSoundContent P) (vector_read (predictors before x y log2)) _ (λ v.
+    (yields_after (IsSoundContent P) (vector_read (predictors before (block_at x y log2))) _ (λ v.
     yields_expect (IsSoundContent P) (Context 129) false _ (yields_give (IsSoundContent P) (Moved v) (record { copies = tt; mode = tt })))))
 
-yields_coded : (kind : SliceKind) (before : List Moving) (x y log2 : ℕ) → AreModes (leaves before) → Yields (IsSoundContent kind) (coded_read kind before x y log2)
+yields_coded : (kind : SliceKind) (before : List Moving) (x y log2 : ℕ) → AreModes (leaves before) → Yields (IsSoundContent kind) (coded_read kind before (block_at x y log2))
 yields_coded I before x y log2 modes = yields_own I before x y log2 modes
 yields_coded P before x y log2 modes =
     yields_after (IsSoundContent P) (bin (Context 7)) _ (λ intra.
-    yields_cond (IsSoundContent P) intra (own_read before x y log2) (move_read before x y log2) (yields_own P before x y log2 modes) (yields_move before x y log2))
+    yields_cond (IsSoundContent P) intra (own_read before (block_at x y log2)) (move_read before (block_at x y log2)) (yields_own P before x y log2 modes) (yields_move before x y log2))
 
 -- ---- units
 
 -- one unit, which is sound
 record IsOneRead (kind : SliceKind) (size : Size) (x y log2 : ℕ) (us : List ReadUnit) : Type 0 where
   content : Content
-  one : us ≡ record { x = x; y = y; log2 = log2; content = content } ∷ []
-  sound : IsSound kind size (record { x = x; y = y; log2 = log2; content = content })
+  one : us ≡ record { block = block_at x y log2; content = content } ∷ []
+  sound : IsSound kind size (record { block = block_at x y log2; content = content })
 
-yields_with : (kind : SliceKind) (size : Size) (x y log2 : ℕ) (c : Content) → IsSoundContent kind c → Yields (IsOneRead kind size x y log2) (unit_with size x y log2 c)
-yields_with kind size x y log2 c s = go (is_in_picture size x y log2 (vector_of c)) refl
+yields_with : (kind : SliceKind) (size : Size) (x y log2 : ℕ) (c : Content) → IsSoundContent kind c → Yields (IsOneRead kind size x y log2) (unit_with size (block_at x y log2) c)
+yields_with kind size x y log2 c s = go (is_in_picture size (block_at x y log2) (vector_of c)) refl
   where
     unit : ReadUnit
-    unit = record { x = x; y = y; log2 = log2; content = c }
+    unit = record { block = block_at x y log2; content = c }
 
-    go : (b : Bool) → is_in_picture size x y log2 (vector_of c) ≡ b → Yields (IsOneRead kind size x y log2) (cond b (give (unit ∷ [])) refuse)
+    go : (b : Bool) → is_in_picture size (block_at x y log2) (vector_of c) ≡ b → Yields (IsOneRead kind size x y log2) (cond b (give (unit ∷ [])) refuse)
     go true e = yields_give (IsOneRead kind size x y log2) (unit ∷ []) (record { content = c; one = refl; sound = record { copies = s.copies; mode = s.mode; source = e } })
     go false e = yields_refuse (IsOneRead kind size x y log2)
 
@@ -93,18 +93,18 @@ yields_skip : (kind : SliceKind) (before : List Moving) (x y : ℕ) → Yields (
 yields_skip I before x y = yields_give (IsSkip I) false refl
 yields_skip P before x y = yields_any (skip_read P (leaves before) x y)
 
-yields_unit : (kind : SliceKind) (size : Size) (before : List Moving) (x y log2 : ℕ) → AreModes (leaves before) → Yields (IsOneRead kind size x y log2) (coding_unit_read kind size before x y log2)
+yields_unit : (kind : SliceKind) (size : Size) (before : List Moving) (x y log2 : ℕ) → AreModes (leaves before) → Yields (IsOneRead kind size x y log2) (coding_unit_read kind size before (block_at x y log2))
 unfolding coding_unit_read
 yields_unit kind size before x y log2 modes =
     yields_expect (IsOneRead kind size x y log2) (Context 0) true _
     (yields_bind (IsSkip kind) (IsOneRead kind size x y log2) (skip_read kind (leaves before) x y) _ (yields_skip kind before x y) (λ skipped s.
-    yields_bind (IsSoundContent kind) (IsOneRead kind size x y log2) (cond skipped (give (Copied (merge before x y log2))) (coded_read kind before x y log2)) _
+    yields_bind (IsSoundContent kind) (IsOneRead kind size x y log2) (cond skipped (give (Copied (merge before (block_at x y log2)))) (coded_read kind before (block_at x y log2))) _
     (go kind skipped s)
     (λ c h. yields_with kind size x y log2 c h)))
   where
-    go : (k : SliceKind) (b : Bool) → IsSkip k b → Yields (IsSoundContent k) (cond b (give (Copied (merge before x y log2))) (coded_read k before x y log2))
+    go : (k : SliceKind) (b : Bool) → IsSkip k b → Yields (IsSoundContent k) (cond b (give (Copied (merge before (block_at x y log2)))) (coded_read k before (block_at x y log2)))
     go I true s = absurd (cc)
-    go P true s = yields_give (IsSoundContent P) (Copied (merge before x y log2)) (record { copies = tt; mode = tt })
+    go P true s = yields_give (IsSoundContent P) (Copied (merge before (block_at x y log2))) (record { copies = tt; mode = tt })
     go k false s = yields_coded k before x y log2 modes
 
 -- ---- what stands before
@@ -136,7 +136,7 @@ map-append (u ∷ a) b = ap (λ (l : List Leaf). leaf_of u ∷ l) (map-append a 
 abbrev pub IsReadTree : SliceKind → Size → ℕ → ℕ → ℕ → List ReadUnit → Type 0
 IsReadTree kind size depth x y us = IsTree size depth x y (map leaf_of us) × AllByRecursion (IsSound kind size) us
 
-one_leaf : (kind : SliceKind) (size : Size) (x y log2 : ℕ) (us : List ReadUnit) → IsOneRead kind size x y log2 us → IsCodingUnit x y log2 (map leaf_of us)
+one_leaf : (kind : SliceKind) (size : Size) (x y log2 : ℕ) (us : List ReadUnit) → IsOneRead kind size x y log2 us → IsCodingUnit (block_at x y log2) (map leaf_of us)
 one_leaf kind size x y log2 us h = record { kind = kind_of h.content; one = ap (map leaf_of) h.one; mode = h.sound.mode }
 
 one_sound : (kind : SliceKind) (size : Size) (x y log2 : ℕ) (us : List ReadUnit) → IsOneRead kind size x y log2 us → AllByRecursion (IsSound kind size) us
@@ -181,10 +181,10 @@ pub yields_tree : (kind : SliceKind) (size : Size) (depth x y : ℕ) (before : L
 yields_tree kind size zero x y before modes = go (is_inside size x y)
   where
     T : Bool → List ReadUnit → Type 0
-    T b us = MatchBool b (IsCodingUnit x y 3 (map leaf_of us)) (map leaf_of us ≡ []) × AllByRecursion (IsSound kind size) us
+    T b us = MatchBool b (IsCodingUnit (block_at x y 3) (map leaf_of us)) (map leaf_of us ≡ []) × AllByRecursion (IsSound kind size) us
 
-    go : (b : Bool) → Yields (T b) (cond b (coding_unit_read kind size before x y 3) (give []))
-    go true = yields_more (IsOneRead kind size x y 3) (T true) (coding_unit_read kind size before x y 3) (λ us h. (one_leaf kind size x y 3 us h, one_sound kind size x y 3 us h)) (yields_unit kind size before x y 3 modes)
+    go : (b : Bool) → Yields (T b) (cond b (coding_unit_read kind size before (block_at x y 3)) (give []))
+    go true = yields_more (IsOneRead kind size x y 3) (T true) (coding_unit_read kind size before (block_at x y 3)) (λ us h. (one_leaf kind size x y 3 us h, one_sound kind size x y 3 us h)) (yields_unit kind size before x y 3 modes)
     go false = yields_give (T false) [] (refl, tt)
 yields_tree kind size (suc depth) x y before modes =
     go (is_inside size x y) (is_whole size (2 * half) x y)
@@ -195,26 +195,26 @@ yields_tree kind size (suc depth) x y before modes =
 
     T : Bool → Bool → List ReadUnit → Type 0
     T a b us =
-        MatchBool a (MatchBool b (IsCodingUnit x y (4 + depth) (map leaf_of us) ⊎ AreQuarters (IsTree size depth) half x y (map leaf_of us)) (AreQuarters (IsTree size depth) half x y (map leaf_of us))) (map leaf_of us ≡ [])
+        MatchBool a (MatchBool b (IsCodingUnit (block_at x y (4 + depth)) (map leaf_of us) ⊎ AreQuarters (IsTree size depth) half x y (map leaf_of us)) (AreQuarters (IsTree size depth) half x y (map leaf_of us))) (map leaf_of us ≡ [])
         × AllByRecursion (IsSound kind size) us
 
     split : Reader (List ReadUnit)
     split = quarters_read (tree_read kind size depth) half x y before
 
     flag : ℕ
-    flag = split_context (leaves before) x y (4 + depth)
+    flag = split_context (leaves before) (block_at x y (4 + depth))
 
     flagged : Reader (List ReadUnit)
-    flagged = bin (Context flag) >>= λ f. cond f split (coding_unit_read kind size before x y (4 + depth))
+    flagged = bin (Context flag) >>= λ f. cond f split (coding_unit_read kind size before (block_at x y (4 + depth)))
 
     go : (a b : Bool) → Yields (AreReadQuarters kind size depth half x y) split → Yields (T a b) (cond (not a) (give []) (cond (not b) split flagged))
     go false b q = yields_give (T false b) [] (refl, tt)
     go true false q = yields_more (AreReadQuarters kind size depth half x y) (T true false) split (λ us h. (h.quarters, h.sound)) q
     go true true q =
         yields_after (T true true) (bin (Context flag)) _ (λ f.
-        yields_cond (T true true) f split (coding_unit_read kind size before x y (4 + depth))
+        yields_cond (T true true) f split (coding_unit_read kind size before (block_at x y (4 + depth)))
         (yields_more (AreReadQuarters kind size depth half x y) (T true true) split (λ us h. (inr h.quarters, h.sound)) q)
-        (yields_more (IsOneRead kind size x y (4 + depth)) (T true true) (coding_unit_read kind size before x y (4 + depth)) (λ us h. (inl (one_leaf kind size x y (4 + depth) us h), one_sound kind size x y (4 + depth) us h))
+        (yields_more (IsOneRead kind size x y (4 + depth)) (T true true) (coding_unit_read kind size before (block_at x y (4 + depth))) (λ us h. (inl (one_leaf kind size x y (4 + depth) us h), one_sound kind size x y (4 + depth) us h))
         (yields_unit kind size before x y (4 + depth) modes)))
 
 pub yields_ctu : (kind : SliceKind) (size : Size) (before : List Moving) (ctu : ℕ) → AreModes (leaves before) → Yields (IsReadTree kind size 2 (ctu_x size ctu) (ctu_y size ctu)) (ctu_read kind size before ctu)

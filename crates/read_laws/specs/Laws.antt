@@ -26,7 +26,7 @@ IsNoCopy P v = Unit {0}
 pub record IsSound (kind : SliceKind) (size : Size) (unit : ReadUnit) : Type 0 where
   pub copies : IsNoCopy kind (vector_of unit.content)
   pub mode : IsMode (kind_of unit.content)
-  pub source : is_in_picture size unit.x unit.y unit.log2 (vector_of unit.content) ≡ true
+  pub source : is_in_picture size unit.block (vector_of unit.content) ≡ true
 
 -- ---- coding tree units
 

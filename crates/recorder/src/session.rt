@@ -1,5 +1,6 @@
 //! A recording from its scripts to its end.
 ghost use Rattle.std.specs.Prelude.{◌≡◌, ◌≤◌, ◌<◌, ◌-◌, ◌^◌, List, [], ◌∷◌, ◌++◌, length, IfOk};
+ghost use Rattle.h265_model.specs.Settings.{plain};
 ghost use Rattle.std.specs.List.{All};
 ghost use Rattle.std.specs.Thread.{IsSync};
 ghost use Rattle.recorder_model.specs.Files.{WhereTold};
@@ -131,7 +132,7 @@ impl Session {
     ) -> Result<Session, NoMemory>
         requires effort { effort ≤ 2 }
         requires few { most_entries scripts < 2 ^ 32 - 1 }
-        ensures settings { IfOk result (λ session. session.settings ≡ record { size = size; effort = effort; key = key }) }
+        ensures settings { IfOk result (λ session. session.settings ≡ plain size effort key) }
         ensures scripts { IfOk result (λ session. session.scripts ≡ scripts) }
     {
         let cuts = cuts_of(&scripts);

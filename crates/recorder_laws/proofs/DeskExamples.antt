@@ -12,12 +12,13 @@ use Rattle.h265_model.specs.Wave.{Jobs, Event, Claim, Sync, Code, Publish, Finis
 use Rattle.recorder_model.specs.Headline.{scripts_after, scripts_of}
 use Rattle.recorder_model.specs.Histories.{own_order}
 use Rattle.recorder_model.specs.Painting.{pictures, colour, raster, lines_of, rasters_after}
+use Rattle.h265_model.specs.Settings.{plain}
 
 report_1 : report_text 1 0 4693 ≡ codes "pictures 1" ++ 10 ∷ codes "paints 0" ++ 10 ∷ codes "bytes 4693" ++ 10 ∷ []
 unfolding digits
 report_1 = refl
 
-served : row_of (codes "serial" ∷ codes "32x32" ∷ codes "0" ∷ codes "1" ∷ codes "o" ∷ codes "f" ∷ []) ≡ Some (Serial (record { settings = record { size = record { w = 32; h = 32 }; effort = 0; key = 1 }; out = codes "o"; file = codes "f" }))
+served : row_of (codes "serial" ∷ codes "32x32" ∷ codes "0" ∷ codes "1" ∷ codes "o" ∷ codes "f" ∷ []) ≡ Some (Serial (record { settings = plain (record { w = 32; h = 32 }) 0 1; out = codes "o"; file = codes "f" }))
 unfolding row_of number_up_to
 served = refl
 

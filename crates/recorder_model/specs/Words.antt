@@ -3,7 +3,7 @@ use Rattle.std.specs.Prelude.{ℕ, ◌*◌, Bool, ◌&&◌, List, [], ◌∷◌,
 use Rattle.std.specs.List.{slice_split}
 use Rattle.h265_model.specs.Bits.{◌>>=◌}
 use Rattle.h265_model.specs.Plain.{Size}
-use Rattle.h265_model.specs.Settings.{Settings, most_side, is_size}
+use Rattle.h265_model.specs.Settings.{plain, Settings, most_side, is_size}
 use Rattle.recorder_model.specs.Script.{number_up_to}
 
 -- the limits
@@ -51,7 +51,7 @@ settings_words size effort key = do
   size ← size_word size
   effort ← number_up_to 2 effort
   key ← number_up_to 65535 key
-  Some (record { size = size; effort = effort; key = key })
+  Some (plain size effort key)
 
 abbrev pub record_words : List (List ℕ) → Option Row
 record_words (size ∷ workers ∷ effort ∷ key ∷ out ∷ file ∷ files) = do

@@ -23,7 +23,7 @@ use Rattle.recorder_model.specs.Files.{Files, IsPrefix, WhereTold}
 use Rattle.edges.specs.declared.sink.WriteError.{WriteError}
 use Rattle.edges.specs.declared.sink.WriteError.TheVariants as write
 use Rattle.recorder_laws.proofs.PlayLaws.{cuts-own_order, paints-own_order, pictures-own_order, own_order-is_lawful, each_picture_is_raster}
-use Rattle.stream_laws.proofs.PlainStreams.{each_stream_is_decoded}
+use Rattle.stream_laws.proofs.PlainStreams.{plain_streams_are_decoded}
 use Rattle.paint_script.specs.Spellable.{IsSpellable, AreSpellable, IsSpellableColour}
 use Rattle.screenrec.specs.Stored.{IsStored, EndsIn}
 use Rattle.screenrec.specs.Recording.{Alone, serial_task, IsPlayedOut, IsPlayedInPart, scripts_in, IsFinished, IsBroken}
@@ -31,6 +31,7 @@ use Rattle.screenrec.specs.declared.outcome.Status.{Status}
 use Rattle.screenrec.specs.declared.outcome.Status.TheVariants as status
 use Rattle.screenrec.specs.Alone.{sink_status, IsOfReport, LeavesScript}
 use Rattle.screenrec.proofs.StoredLaws.{told_as, holds}
+use Rattle.h265_model.specs.declared.extra.Extra.TheVariants.{Plain}
 
 -- ---- the report
 
@@ -94,13 +95,13 @@ pictures_are size script order own = ap (pictures size (script ∷ [])) own ∙ 
 
 -- settings within the limits
 abbrev pub AreWithin : SerialWords → Type 0
-AreWithin words = IsTrue (is_size words.settings.size) × (words.settings.effort ≤ 2)
+AreWithin words = IsTrue (is_size words.settings.size) × (words.settings.extra ≡ Plain)
 
 module _ (words : SerialWords) where
   decoded : (script : List Line) → AreWithin words → AreSpellable script →
       decode (stream_of words.settings (rasters_after words.settings.size [] script)) ≡ Ok (words.settings.size, rasters_after words.settings.size [] script)
   decoded script within spelled =
-      each_stream_is_decoded words.settings (rasters_after words.settings.size [] script) within.0
+      plain_streams_are_decoded words.settings (rasters_after words.settings.size [] script) within.1 within.0
       (each_picture_is_raster words.settings.size script (have_colours script spelled))
 
   recorded : (script : List Line) (order : List Entry) (before after : Files) (written : ℕ) → AreWithin words → AreSpellable script → order ≡ own_order (script ∷ []) →

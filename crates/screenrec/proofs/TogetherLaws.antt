@@ -23,7 +23,7 @@ use Rattle.recorder_model.specs.Headline.{IsPlayed, IsRecorded, IsCutShort, repo
 use Rattle.recorder_model.specs.Files.{Files, file_at, IsPrefix, WhereTold}
 use Rattle.recorder_model.specs.FileLaws.{told_on, file_at-insert}
 use Rattle.recorder_laws.proofs.PlayLaws.{each_picture_is_raster}
-use Rattle.stream_laws.proofs.PlainStreams.{each_stream_is_decoded}
+use Rattle.stream_laws.proofs.PlainStreams.{plain_streams_are_decoded}
 use Rattle.edges.specs.Shelf.{Creates}
 use Rattle.paint_script.specs.Spellable.{IsSpellable, AreSpellable}
 use Rattle.desk_state.specs.Standing.{most_entries}
@@ -44,6 +44,7 @@ use Rattle.screenrec.specs.Together.{written_of, recorded_status, EndsInFile, Is
 use Rattle.screenrec.proofs.AloneLaws.{count_both, colours_of}
 use Rattle.screenrec.proofs.FileParts.{ends_from}
 use Rattle.screenrec.proofs.StoredLaws.{told_as}
+use Rattle.h265_model.specs.declared.extra.Extra.TheVariants.{Plain}
 
 -- ---- counts
 
@@ -165,7 +166,7 @@ whole_is settings ps wanted e = ap joined (take_all (wanted + 1) (pieces setting
 
 -- settings within the limits
 abbrev pub AreWithin : RecordWords → Type 0
-AreWithin words = IsTrue (is_size words.settings.size) × (words.settings.effort ≤ 2)
+AreWithin words = IsTrue (is_size words.settings.size) × (words.settings.extra ≡ Plain)
 
 module _ (words : RecordWords) (scripts : List (List Line)) (order : List Entry) (x z : Files) where
   abbrev ps : List Raster
@@ -180,7 +181,7 @@ module _ (words : RecordWords) (scripts : List (List Line)) (order : List Entry)
       let whole : first_pieces words.settings ps (all_cuts scripts + 1) ≡ stream_of words.settings ps = whole_is words.settings ps (all_cuts scripts) many in
       record {
         stored = s.stored ∙ ap (insert x words.out) whole;
-        decodes = each_stream_is_decoded words.settings ps within.0
+        decodes = plain_streams_are_decoded words.settings ps within.1 within.0
             (each_picture_is_raster words.settings.size (lines_of scripts order) (order_has_colours scripts order spelled));
         counted = s.counted ∙ ap length whole;
       }

@@ -4,7 +4,7 @@ use Rattle.recorder_model.specs.declared.entry.Entry.{Entry}
 use Rattle.recorder_model.specs.declared.line.Line.{Line}
 use Rattle.recorder_model.specs.declared.entry.Entry.TheVariants as entry
 use Rattle.h265_model.specs.Plain.{below}
-use Rattle.h265_model.specs.Settings.{Settings}
+use Rattle.h265_model.specs.Settings.{plain, Settings}
 use Rattle.h265_model.specs.Raster.{Raster}
 use Rattle.recorder_model.specs.Painting.{pictures}
 use Rattle.recorder_model.specs.Histories.{cuts, paints, script_length}
@@ -17,7 +17,7 @@ use Rattle.screenrec.specs.declared.outcome.Status.TheVariants as status
 
 -- 640x360, EFFORT 1, KEY 4
 abbrev pub demo_settings : Settings
-demo_settings = record { size = record { w = 640; h = 360 }; effort = 1; key = 4 }
+demo_settings = plain (record { w = 640; h = 360 }) 1 4
 
 -- in rounds: line k of each client in turn, for each k
 abbrev pub demo_order : List Entry

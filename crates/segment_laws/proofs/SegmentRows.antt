@@ -14,14 +14,14 @@ use Rattle.h265_model.specs.Raster.{Raster, planes, crop}
 use Rattle.h265_model.specs.NalUnits.{NalUnit}
 use Rattle.h265_model.specs.SliceHead.{segment_bits, read_segment_head}
 use Rattle.h265_model.specs.Contexts.{row_start}
-use Rattle.h265_model.specs.Tree.{Source}
+use Rattle.h265_model.specs.Tree.{moving, Source}
 use Rattle.h265_model.specs.Motion.{Moving}
 use Rattle.h265_model.specs.Stream.{slice_kind, nal_header}
 use Rattle.h265_model.specs.Decode.{Decoded, decoded_picture, ok_of}
 use Rattle.h265_model.specs.Tree.{ReadUnit, ReadCtu, units_of, moving_of}
-use Rattle.h265_model.specs.Slice.{segment_row_read, row_of_bytes, segment_read, handed_on}
+use Rattle.h265_model.specs.Slice.{segment_code, contexts_at, segment_row_read, row_of_bytes, segment_read, handed_on}
 use Rattle.h265_model.specs.Rebuild.{rebuild}
-use Rattle.h265_model.specs.Walks.{move_unit, coded_first, contexts_of, segment_code_of}
+use Rattle.h265_model.specs.Tree.{move_unit, coded_first}
 use Rattle.h265_model.specs.Decode.{Begun, Stand, referred, is_next, before_segment, next_row, after_segment, segment_step, step, read_units}
 use Rattle.h265_model.proofs.ListParts.{drop_front}
 use Rattle.h265_laws.proofs.SliceLaw.{rows_fit}
@@ -49,7 +49,7 @@ same_bit false = refl
 
 module _ (size : Size) (idr : Bool) (poc : ℕ) (source : Source) (units : List (List MoveLeaf)) (last : Option Decoded) (now : Picture) (is : IsCoded size idr poc source units last now) where
   abbrev pub codes : ℕ → List ℕ
-  codes row = segment_code_of (slice_kind idr) (move_unit (slice_kind idr) source) size units row
+  codes row = segment_code (slice_kind idr) (moving (move_unit (slice_kind idr) source)) size units row
 
   begun_at : ℕ → List ℕ → Begun
   begun_at row handed = record { idr = idr; poc = poc; row = row; units = read_first source units (row * ctus size.w); handed = handed }
@@ -63,16 +63,16 @@ module _ (size : Size) (idr : Bool) (poc : ℕ) (source : Source) (units : List 
     last_is : stand.last ≡ last
     next : next_row stand.begun ≡ row
     begun : before_segment idr stand (order_told (row * ctus size.w) poc) ≡ Some (begun_at row handed)
-    starts : row_start (slice_kind idr) (ctus size.w) row handed ≡ contexts_of (slice_kind idr) (move_unit (slice_kind idr) source) size units row
+    starts : row_start (slice_kind idr) (ctus size.w) row handed ≡ contexts_at (slice_kind idr) (moving (move_unit (slice_kind idr) source)) size units row
 
   -- a segment's data is read
   data_is_read : (row : ℕ) (handed : List ℕ) → row < ctus size.h
-      → row_start (slice_kind idr) (ctus size.w) row handed ≡ contexts_of (slice_kind idr) (move_unit (slice_kind idr) source) size units row
+      → row_start (slice_kind idr) (ctus size.w) row handed ≡ contexts_at (slice_kind idr) (moving (move_unit (slice_kind idr) source)) size units row
       → segment_read (slice_kind idr) size row (map moving_of (read_first source units (row * ctus size.w))) handed (codes row) ≡ Some (values row)
   unfolding values
   data_is_read row handed less starts =
       let kind : SliceKind = slice_kind idr in
-      let c : List ℕ = contexts_of kind (move_unit kind source) size units row in
+      let c : List ℕ = contexts_at kind (moving (move_unit kind source)) size units row in
       ap (λ (b : List Moving). row_of_bytes (segment_row_read kind size row b) (row_start kind (ctus size.w) row handed) (codes row)) (coded_is source units (row * ctus size.w))
       ∙ (ap (λ (d : List ℕ). row_of_bytes (segment_row_read kind size row (coded_first units (row * ctus size.w))) d (codes row)) starts
       ∙ row_is_read (segment_row_read kind size row (coded_first units (row * ctus size.w))) _ c _
@@ -130,7 +130,7 @@ module _ (size : Size) (idr : Bool) (poc : ℕ) (source : Source) (units : List 
         next = refl;
         begun = cond-true (beq idr idr) (Some (begun_at (row + 1) (handed_on (values row)))) None (same_bit idr);
         starts =
-            subst (λ (r : ℕ). row_start (slice_kind idr) (ctus size.w) r (handed_on (values row)) ≡ contexts_of (slice_kind idr) (move_unit (slice_kind idr) source) size units r) (sym one_more)
+            subst (λ (r : ℕ). row_start (slice_kind idr) (ctus size.w) r (handed_on (values row)) ≡ contexts_at (slice_kind idr) (moving (move_unit (slice_kind idr) source)) size units r) (sym one_more)
             (next_start (slice_kind idr) size source units row);
       }
 
@@ -188,7 +188,7 @@ module _ (size : Size) (idr : Bool) (poc : ℕ) (source : Source) (units : List 
       ∙ ap (λ (k : ℕ). read_units size true k (now_whole decoded) rest >>- λ os. Ok (crop size (decoded_picture size decoded) ∷ os)) count))
 
   at_start : (stand : Stand) → stand.begun ≡ None → stand.last ≡ last → StandsAt 0 stand
-  unfolding begun_at row_start contexts_of
+  unfolding begun_at row_start contexts_at
   at_start stand b l =
       let none : 0 * ctus size.w ≡ 0 = omega arith in
       let at_row : List ReadUnit → Begun = λ us. record { idr = idr; poc = poc; row = 0; units = us; handed = [] } in

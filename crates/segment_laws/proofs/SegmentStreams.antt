@@ -1,5 +1,5 @@
 -- The stream of pictures in a slice segment for each row is decoded to them.
-use Rattle.std.proofs.Common.{◌≡◌, refl, sym, ◌∙◌, ap, ℕ, zero, suc, ◌+◌, ◌*◌, ◌%◌, ◌<◌, List, [], ◌∷◌, ◌++◌, Bool, true, length, map, take, take_all, append_assoc, arith}
+use Rattle.std.proofs.Common.{subst, ◌≡◌, refl, sym, ◌∙◌, ap, ℕ, zero, suc, ◌+◌, ◌*◌, ◌%◌, ◌<◌, List, [], ◌∷◌, ◌++◌, Bool, true, length, map, take, take_all, append_assoc, arith}
 use Rattle.std.specs.Prelude.{Option, None, Ok}
 use Rattle.std.specs.List.{AllByRecursion, flat_map}
 use Rattle.std.proofs.lemmas.List.{length-map}
@@ -10,20 +10,20 @@ use Rattle.h265_model.specs.declared.moves.MoveLeaf.{MoveLeaf}
 use Rattle.h265_model.specs.Plain.{Size, Picture, ctus, below, joined}
 use Rattle.h265_model.specs.Bits.{bytes}
 use Rattle.h265_model.specs.Bits.{◌>>-◌}
-use Rattle.h265_model.specs.Settings.{Settings}
+use Rattle.h265_model.specs.Settings.{has_segments, Settings}
 use Rattle.h265_model.specs.Raster.{Raster, IsRaster}
 use Rattle.h265_model.specs.NalUnits.{NalUnit, IsNalUnit, escape, start_code, nal_unit_bytes, stream_bytes}
 use Rattle.h265_model.specs.Fields.{fields_bits}
 use Rattle.h265_model.specs.SliceHead.{head_bits, head_fields, dependent_fields, segment_bits}
-use Rattle.h265_model.specs.Stream.{is_idr, order_count, slice_kind, nal_header}
+use Rattle.h265_model.specs.Stream.{reference, is_idr, order_count, slice_kind, nal_header}
 use Rattle.h265_model.specs.Decode.{Decoded}
-use Rattle.h265_model.specs.Tree.{Source}
+use Rattle.h265_model.specs.Tree.{leaf_units, moving, Source}
 use Rattle.h265_laws.proofs.LeafReading.{reads_of}
 use Rattle.h265_model.specs.Motion.{still}
 use Rattle.h265_laws.proofs.LeafDecoding as Old
 use Rattle.h265_model.specs.Rebuild.{rebuild}
-use Rattle.h265_model.specs.Walks.{still_unit, move_unit, segment_code_of}
-use Rattle.h265_model.specs.ExtraStream.{segment_piece, extra_piece}
+use Rattle.h265_model.specs.Tree.{still_unit, move_unit}
+use Rattle.h265_model.specs.Stream.{segment_piece, picture_units, picture_piece}
 use Rattle.h265_model.specs.Decode.{Stand, read_units}
 use Rattle.h265_laws.proofs.EndsLaw.{Ends, code_ends, ends_append, ends_well, escape_append, aligned_bits_end}
 use Rattle.h265_laws.proofs.ParamLaws.{in_limits}
@@ -41,6 +41,8 @@ use Rattle.unit_laws.proofs.UnitForm.{lawful_sides, segment_form}
 use Rattle.segment_laws.specs.Laws.{EachSegmentedStreamIsDecoded}
 use Rattle.unit_laws.proofs.Coded.{IsCoded}
 use Rattle.segment_laws.proofs.SegmentRows.{row_unit, decoded, picture_is_read}
+use Rattle.h265_model.specs.Slice.{segment_code}
+use Rattle.h265_model.specs.declared.extra.Extra.{Extra}
 
 -- ---- a picture's parts
 
@@ -48,7 +50,7 @@ abbrev units_in : Settings → Bool → Option Raster → Raster → List (List 
 units_in settings idr before raster = map (map still) (leaves_of settings idr before raster)
 
 abbrev codes_of : Settings → Bool → Option Raster → Raster → ℕ → List ℕ
-codes_of settings idr before raster row = segment_code_of (slice_kind idr) (move_unit (slice_kind idr) (source_in settings raster)) settings.size (units_in settings idr before raster) row
+codes_of settings idr before raster row = segment_code (slice_kind idr) (moving (move_unit (slice_kind idr) (source_in settings raster))) settings.size (units_in settings idr before raster) row
 
 abbrev units_with : Settings → Bool → ℕ → Option Raster → Raster → List NalUnit
 units_with settings idr poc before raster = map (row_unit settings.size idr poc (codes_of settings idr before raster)) (below (ctus settings.size.h))
@@ -79,12 +81,12 @@ piece_is_unit size idr poc codes row =
     ∙ ap (λ (l : List ℕ). (start_code ++ nal_header idr) ++ l) (sym (escape_append 255 255 front (codes row) (head_ends idr poc (row * ctus size.w) (ctus size.w * ctus size.h))))
 
 pieces_are_units : (settings : Settings) (idr : Bool) (poc : ℕ) (before : Option Raster) (raster : Raster) (rows : List ℕ)
-    → flat_map (λ row. segment_piece settings.size idr poc row (segment_code_of (slice_kind idr) (still_unit (slice_kind idr) (source_in settings raster)) settings.size (units_in settings idr before raster) row)) rows
+    → flat_map (λ row. segment_piece settings.size idr poc row (segment_code (slice_kind idr) (leaf_units (slice_kind idr) (source_in settings raster)) settings.size (leaves_of settings idr before raster) row)) rows
     ≡ flat_map nal_unit_bytes (map (row_unit settings.size idr poc (codes_of settings idr before raster)) rows)
 pieces_are_units settings idr poc before raster [] = refl
 pieces_are_units settings idr poc before raster (row ∷ rows) =
     let size : Size = settings.size in
-    let rest : List ℕ = flat_map (λ r. segment_piece size idr poc r (segment_code_of (slice_kind idr) (still_unit (slice_kind idr) (source_in settings raster)) size (units_in settings idr before raster) r)) rows in
+    let rest : List ℕ = flat_map (λ r. segment_piece size idr poc r (segment_code (slice_kind idr) (leaf_units (slice_kind idr) (source_in settings raster)) size (leaves_of settings idr before raster) r)) rows in
     ap (λ (l : List ℕ). segment_piece size idr poc row l ++ rest) (segment_code_still (slice_kind idr) size (source_in settings raster) (leaves_of settings idr before raster) row)
     ∙ (ap (λ (l : List ℕ). l ++ rest) (piece_is_unit size idr poc (codes_of settings idr before raster) row)
     ∙ ap (λ (l : List ℕ). nal_unit_bytes (row_unit size idr poc (codes_of settings idr before raster) row) ++ l) (pieces_are_units settings idr poc before raster rows))
@@ -164,16 +166,21 @@ segmented_is_read settings fit some n number before raster stand rest is behind 
           ∙ ap (λ (r : Raster). read_units size true (number + ctus size.h) (now_whole whole_now) rest >>- λ others. Ok (r ∷ others)) (cropped size raster is some);
     }
 
-segmented_are_read : (settings : Settings) → IsFit settings.size → 0 < settings.size.w → AreRead settings Segments (segmented settings)
-unfolding extra_piece stream_bytes
-segmented_are_read settings fit some = record {
-  pieces = λ n before raster is. pieces_are_units settings (is_idr settings.key n) (order_count settings.key n % 256) before raster (below (ctus settings.size.h));
+segmented_are_read : (settings : Settings) → settings.extra ≡ Segments → IsFit settings.size → 0 < settings.size.w → AreRead settings (segmented settings)
+unfolding picture_piece picture_units stream_bytes
+segmented_are_read settings kind fit some = record {
+  pieces = λ n before raster is.
+      ap
+      (λ (x : Extra). picture_units x settings (is_idr settings.key n) (order_count settings.key n % 256) (reference (is_idr settings.key n) settings.size before) (picture_of settings raster)) kind
+      ∙ (pieces_are_units settings (is_idr settings.key n) (order_count settings.key n % 256) before raster (below (ctus settings.size.h)));
   are = λ n before raster is. units_are settings (is_idr settings.key n) (order_count settings.key n % 256) before raster (below (ctus settings.size.h)) fit is;
-  read = λ n number before raster stand rest is behind none. segmented_is_read settings fit some n number before raster stand rest is behind none;
+  read = λ n number before raster stand rest is behind none.
+      subst (λ (b : Bool). ReadsOn settings b n number raster stand (segmented settings n before raster) rest) (sym (ap has_segments kind))
+      (segmented_is_read settings fit some n number before raster stand rest is behind none);
 }
 
 pub segmented_streams_are_decoded : EachSegmentedStreamIsDecoded
-segmented_streams_are_decoded settings rasters size_is wide are =
-    stream_is_decoded settings Segments (segmented settings)
-    (segmented_are_read settings (size_fits settings.size size_is) (in_limits settings.size size_is).w_low)
-    (read_params-param_units settings.size true size_is (λ e. wide)) rasters are
+segmented_streams_are_decoded settings rasters kind size_is wide are =
+    stream_is_decoded settings (segmented settings)
+    (segmented_are_read settings kind (size_fits settings.size size_is) (in_limits settings.size size_is).w_low)
+    (read_params-param_units settings.size (has_segments settings.extra) size_is (λ e. wide)) rasters are

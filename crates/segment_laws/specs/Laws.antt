@@ -5,7 +5,7 @@ use Rattle.h265_model.specs.declared.extra.Extra.TheVariants.{Segments}
 use Rattle.h265_model.specs.Plain.{AreBytes, coded}
 use Rattle.h265_model.specs.Raster.{Raster, IsRaster}
 use Rattle.h265_model.specs.Settings.{Settings, is_size}
-use Rattle.h265_model.specs.ExtraStream.{extra_stream}
+use Rattle.h265_model.specs.Stream.{stream_of}
 use Rattle.h265_model.specs.Decode.{decode}
 use Rattle.h265_model.specs.Bits.{bytes}
 use Rattle.h265_model.specs.SliceHead.{segment_bits, read_segment_head}
@@ -32,5 +32,5 @@ EachSegmentHeadIsSpelled =
 -- the stream of a list of pictures, each in a slice segment for each row of coding tree blocks, is decoded to them. Pictures have two such blocks in a row at least
 abbrev pub EachSegmentedStreamIsDecoded : Type 0
 EachSegmentedStreamIsDecoded =
-    (settings : Settings) (pictures : List Raster) → IsTrue (is_size settings.size) → 32 < coded settings.size.w → AllByRecursion (IsRaster settings.size) pictures →
-    decode (extra_stream settings Segments pictures) ≡ Ok (settings.size, pictures)
+    (settings : Settings) (pictures : List Raster) → settings.extra ≡ Segments → IsTrue (is_size settings.size) → 32 < coded settings.size.w → AllByRecursion (IsRaster settings.size) pictures →
+    decode (stream_of settings pictures) ≡ Ok (settings.size, pictures)

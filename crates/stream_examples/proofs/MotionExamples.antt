@@ -6,7 +6,7 @@ use Rattle.h265_model.specs.declared.moves.Vector.{Vector}
 use Rattle.h265_model.specs.declared.moves.MoveLeaf.{MoveLeaf}
 use Rattle.h265_model.specs.declared.moves.MoveKind.{MoveKind}
 use Rattle.h265_model.specs.declared.moves.MoveKind.TheVariants as moves
-use Rattle.h265_model.specs.Plain.{Size, context_bin, bypass_bin, terminate_bin}
+use Rattle.h265_model.specs.Plain.{block_at, Size, context_bin, bypass_bin, terminate_bin}
 use Rattle.h265_model.specs.Bits.{bits as bits_of, ◌>>=◌ as and_then, u, digits_up_to, value_after, read_u, read_alignment}
 use Rattle.h265_model.specs.Code.{code, closing, put_bin}
 use Rattle.h265_model.specs.Contexts.{start, lps_range, next}
@@ -23,7 +23,7 @@ b zero = bypass_bin false
 b (suc n) = bypass_bin true
 
 abbrev unit : ℕ → ℕ → ℕ → MoveKind → MoveLeaf
-unit x y log2 kind = record { x = x; y = y; log2 = log2; kind = kind }
+unit x y log2 kind = record { block = block_at x y log2; kind = kind }
 
 abbrev size_of : ℕ → ℕ → Size
 size_of w h = record { w = w; h = h }
@@ -38,7 +38,7 @@ read_from both list =
     and_then (vector_read both e) (λ found. Some found.0))
 
 -- the unit on the right of a skip, copied from its place
-copied_from_the_left : move_items (vector (negsuc 31) (pos 0)) (predictors (coded (unit 0 0 5 moves.Skip ∷ [])) 32 0 5) ≡ c 0 125 ∷ c 1 127 ∷ c 0 127 ∷ c 1 128 ∷ b 1 ∷ b 1 ∷ b 1 ∷ b 1 ∷ b 1 ∷ b 1 ∷ b 0 ∷ b 0 ∷ b 0 ∷ b 0 ∷ b 0 ∷ b 0 ∷ b 0 ∷ b 0 ∷ b 1 ∷ c 0 126 ∷ c 0 129 ∷ []
+copied_from_the_left : move_items (vector (negsuc 31) (pos 0)) (predictors (coded (unit 0 0 5 moves.Skip ∷ [])) (block_at 32 0 5)) ≡ c 0 125 ∷ c 1 127 ∷ c 0 127 ∷ c 1 128 ∷ b 1 ∷ b 1 ∷ b 1 ∷ b 1 ∷ b 1 ∷ b 1 ∷ b 0 ∷ b 0 ∷ b 0 ∷ b 0 ∷ b 0 ∷ b 0 ∷ b 0 ∷ b 0 ∷ b 1 ∷ c 0 126 ∷ c 0 129 ∷ []
 unfolding vector_before merge predictors has_source difference_items second_is_nearer move_items u digits_up_to value_after
 copied_from_the_left = refl
 
@@ -74,11 +74,11 @@ some_units =
 -- the merge vector and the predictors of each of these, each after those before it
 abbrev merges_from : List Moving → List MoveLeaf → List Vector
 merges_from before [] = []
-merges_from before (u ∷ us) = merge before u.x u.y u.log2 ∷ merges_from (coded_after before (u ∷ [])) us
+merges_from before (u ∷ us) = merge before u.block ∷ merges_from (coded_after before (u ∷ [])) us
 
 abbrev predictors_from : List Moving → List MoveLeaf → List (Vector × Vector)
 predictors_from before [] = []
-predictors_from before (u ∷ us) = predictors before u.x u.y u.log2 ∷ predictors_from (coded_after before (u ∷ [])) us
+predictors_from before (u ∷ us) = predictors before u.block ∷ predictors_from (coded_after before (u ∷ [])) us
 
 some_merges : merges_from [] some_units ≡ vector (pos 0) (pos 0) ∷ vector (pos 0) (pos 0) ∷ vector (pos 0) (pos 0) ∷ vector (negsuc 15) (pos 0) ∷ vector (negsuc 7) (negsuc 7) ∷ vector (pos 0) (pos 0) ∷ vector (negsuc 7) (negsuc 7) ∷ vector (pos 8) (pos 0) ∷ vector (negsuc 15) (pos 0) ∷ vector (negsuc 7) (negsuc 7) ∷ vector (negsuc 15) (pos 8) ∷ vector (pos 8) (pos 0) ∷ vector (negsuc 15) (pos 8) ∷ vector (negsuc 15) (pos 8) ∷ vector (pos 8) (pos 0) ∷ vector (pos 8) (pos 0) ∷ vector (pos 0) (pos 0) ∷ vector (pos 8) (pos 0) ∷ vector (negsuc 15) (pos 8) ∷ vector (pos 0) (pos 0) ∷ vector (pos 8) (pos 0) ∷ vector (pos 8) (pos 0) ∷ vector (pos 8) (pos 0) ∷ vector (pos 0) (pos 0) ∷ vector (pos 0) (pos 0) ∷ []
 unfolding vector_before merge predictors has_source difference_items second_is_nearer move_items u digits_up_to value_after
@@ -173,30 +173,30 @@ no_whole_x : read_from (vector (pos 0) (pos 0), vector (pos 0) (pos 0)) (c 1 127
 unfolding difference_items second_is_nearer move_items difference_read whole_part vector_read code closing put_bin start Engine.start lps_range next doublings renormalised context_read bypass_read terminate_read u digits_up_to value_after read_u read_alignment
 no_whole_x = refl
 
-inside : has_source (size_of 16 8) 0 0 3 (vector (pos 8) (pos 0)) ≡ true
+inside : has_source (size_of 16 8) (block_at 0 0 3) (vector (pos 8) (pos 0)) ≡ true
 unfolding has_source
 inside = refl
 
-past_right : has_source (size_of 16 8) 8 0 3 (vector (pos 1) (pos 0)) ≡ false
+past_right : has_source (size_of 16 8) (block_at 8 0 3) (vector (pos 1) (pos 0)) ≡ false
 unfolding has_source
 past_right = refl
 
-past_left : has_source (size_of 16 8) 8 0 3 (vector (negsuc 8) (pos 0)) ≡ false
+past_left : has_source (size_of 16 8) (block_at 8 0 3) (vector (negsuc 8) (pos 0)) ≡ false
 unfolding has_source
 past_left = refl
 
-at_left : has_source (size_of 16 8) 8 0 3 (vector (negsuc 7) (pos 0)) ≡ true
+at_left : has_source (size_of 16 8) (block_at 8 0 3) (vector (negsuc 7) (pos 0)) ≡ true
 unfolding has_source
 at_left = refl
 
-in_padding : has_source (size_of 9 8) 0 0 3 (vector (pos 8) (pos 0)) ≡ true
+in_padding : has_source (size_of 9 8) (block_at 0 0 3) (vector (pos 8) (pos 0)) ≡ true
 unfolding has_source
 in_padding = refl
 
-past_bottom : has_source (size_of 64 40) 0 8 5 (vector (pos 0) (pos 1)) ≡ false
+past_bottom : has_source (size_of 64 40) (block_at 0 8 5) (vector (pos 0) (pos 1)) ≡ false
 unfolding has_source
 past_bottom = refl
 
-past_top : has_source (size_of 64 40) 0 8 5 (vector (pos 32) (negsuc 8)) ≡ false
+past_top : has_source (size_of 64 40) (block_at 0 8 5) (vector (pos 32) (negsuc 8)) ≡ false
 unfolding has_source
 past_top = refl

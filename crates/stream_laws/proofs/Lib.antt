@@ -1,9 +1,7 @@
-pub mod Ties
 pub mod OldTree
 pub mod OldRows
 pub mod OldPictures
 pub mod OldStreams
 pub mod StreamForm
 pub mod Behind
-pub mod Prefixes
 pub mod PlainStreams

@@ -3,7 +3,7 @@ use Rattle.std.proofs.Common.{◌≡◌, refl, ◌∙◌, ap, ℕ, ◌+◌, ◌*
 use Rattle.std.specs.Prelude.{map, get_or}
 use Rattle.std.specs.List.{flat_map}
 use Rattle.h265_model.specs.declared.leaf.Leaf.{Leaf}
-use Rattle.h265_model.specs.Plain.{covers, Size, Picture, leaf_with, below, place_values}
+use Rattle.h265_model.specs.Plain.{block_at, covers, Size, Picture, leaf_with, below, place_values}
 use Rattle.h265_model.specs.Raster.{planes, blank}
 use Rattle.h265_laws.proofs.LeafReading as Tree
 use Rattle.h265_model.specs.Tree.{samples_in}
@@ -32,17 +32,17 @@ copied_same : (prev : Picture) (leaf : Leaf) (component : ℕ) → moved_samples
 unfolding moved_samples
 copied_same prev leaf component =
     places_same (leaf_side leaf) (leaf_side leaf) _ _ (λ x y.
-    ap (λ (n : ℕ). prev component n (leaf.y + y + 0)) (add-zero (leaf.x + x)) ∙ ap (λ (n : ℕ). prev component (leaf.x + x) n) (add-zero (leaf.y + y)))
+    ap (λ (n : ℕ). prev component n (leaf.block.y + y + 0)) (add-zero (leaf.block.x + x)) ∙ ap (λ (n : ℕ). prev component (leaf.block.x + x) n) (add-zero (leaf.block.y + y)))
 
 block_same : (size : Size) (prev now : Picture) (x y log2 : ℕ) (c : Tree.Content) (component : ℕ)
-    → block_of size prev now (leaf_with x y log2 (kind_of (content_as c))) (content_as c) component ≡ Rebuild.block_of size prev now (leaf_with x y log2 (Tree.kind_of c)) c component
+    → block_of size prev now (leaf_with (block_at x y log2) (kind_of (content_as c))) (content_as c) component ≡ Rebuild.block_of size prev now (leaf_with (block_at x y log2) (Tree.kind_of c)) c component
 unfolding block_of Rebuild.block_of
-block_same size prev now x y log2 Tree.Copied component = copied_same prev (leaf_with x y log2 (Tree.kind_of Tree.Copied)) component
+block_same size prev now x y log2 Tree.Copied component = copied_same prev (leaf_with (block_at x y log2) (Tree.kind_of Tree.Copied)) component
 block_same size prev now x y log2 (Tree.Samples planes) component = refl
 block_same size prev now x y log2 (Tree.Levels mode planes) component = refl
 
 unit_same : (size : Size) (prev now : Picture) (read : Tree.ReadLeaf) → with_unit size prev now (unit_as read) ≡ Rebuild.with_leaf size prev now read
-unit_same size prev now read = λ i component x y. cond (covers x y (Tree.leaf_of read)) (get_or (block_same size prev now read.x read.y read.log2 read.content component i) ((y - read.y) * leaf_side (Tree.leaf_of read) + (x - read.x)) 0) (now component x y)
+unit_same size prev now read = λ i component x y. cond (covers x y (Tree.leaf_of read)) (get_or (block_same size prev now read.block.x read.block.y read.block.log2 read.content component i) ((y - read.block.y) * leaf_side (Tree.leaf_of read) + (x - read.block.x)) 0) (now component x y)
 
 units_same : (size : Size) (prev now : Picture) (reads : List Tree.ReadLeaf) → with_units size prev now (units_as reads) ≡ Rebuild.with_leaves size prev now reads
 units_same size prev now [] = refl

@@ -10,7 +10,7 @@ use Rattle.h265_model.specs.declared.leaf.SliceKind.{SliceKind}
 use Rattle.h265_model.specs.declared.leaf.SliceKind.TheVariants.{I, P}
 use Rattle.h265_model.specs.declared.leaf.Leaf.{Leaf}
 use Rattle.h265_model.specs.declared.moves.Vector.{Vector}
-use Rattle.h265_model.specs.Plain.{Size, coded, ctus, ctu_x, ctu_y}
+use Rattle.h265_model.specs.Plain.{block_at, Size, coded, ctus, ctu_x, ctu_y}
 use Rattle.h265_model.specs.Bits.{◌>>=◌ as and_then}
 use Rattle.h265_model.specs.Engine.{Engine, Reader, ◌>>=◌, give, refuse, bin, samples}
 use Rattle.h265_model.specs.Predict.{is_inside}
@@ -21,6 +21,7 @@ use Rattle.h265_model.specs.Plain.{covers}
 use Rattle.h265_laws.proofs.LeafReading.{part_mode_read}
 use Rattle.h265_model.specs.Motion.{Moving, leaves, no_motion, vector_in, vector_before, first_vector, or_none, merge, has_source, reaches, a0, a1, b0, b1, b2}
 use Rattle.h265_model.specs.Tree.{Content, Copied, Samples, Levels, ReadUnit, kind_of, vector_of, moving_of, units_after, intra_read, pcm_read, content_read, own_read, move_read, coded_read, is_in_picture, unit_with, coding_unit_read, quarters_read, tree_read, ctu_read}
+use Rattle.h265_model.specs.declared.block.CodingBlock.{CodingBlock}
 
 -- ---- readers of which one reads all that the other does
 
@@ -66,7 +67,7 @@ content_as (Tree.Samples planes) = Samples planes
 content_as (Tree.Levels mode planes) = Levels mode planes
 
 abbrev pub unit_as : Tree.ReadLeaf → ReadUnit
-unit_as read = record { x = read.x; y = read.y; log2 = read.log2; content = content_as read.content }
+unit_as read = record { block = read.block; content = content_as read.content }
 
 abbrev pub units_as : List Tree.ReadLeaf → List ReadUnit
 units_as reads = map unit_as reads
@@ -105,7 +106,7 @@ leaves-append (u ∷ a) b = ap (λ (l : List Leaf). u.leaf ∷ l) (leaves-append
 leaves_as : (reads : List Tree.ReadLeaf) → leaves (map moving_of (units_as reads)) ≡ map Tree.leaf_of reads
 leaves_as [] = refl
 leaves_as (r ∷ reads) =
-    ap (λ k. record { x = r.x; y = r.y; log2 = r.log2; kind = k } ∷ leaves (map moving_of (units_as reads))) (kind_as r.content)
+    ap (λ k. record { block = r.block; kind = k } ∷ leaves (map moving_of (units_as reads))) (kind_as r.content)
     ∙ ap (λ (l : List Leaf). Tree.leaf_of r ∷ l) (leaves_as reads)
 
 pub after_as : (before : List Moving) (reads : List Tree.ReadLeaf) → leaves (units_after before (units_as reads)) ≡ Tree.leaves_after (leaves before) reads
@@ -143,11 +144,12 @@ first_still [] h = refl
 first_still (None ∷ os) h = first_still os h.1
 first_still (Some v ∷ os) h = h.0
 
-pub merge_still : (units : List Moving) (x y log2 : ℕ) → AreStill units → merge units x y log2 ≡ no_motion
+pub merge_still : (units : List Moving) (x y log2 : ℕ) → AreStill units → merge units (block_at x y log2) ≡ no_motion
 unfolding merge
 merge_still units x y log2 h =
     let n : ℕ = 2 ^ log2 in
-    first_still (a1 units x y n ∷ b1 units x y n ∷ b0 units x y n ∷ a0 units x y n ∷ b2 units x y ∷ [])
+    let b : CodingBlock = block_at x y log2 in
+    first_still (a1 units b ∷ b1 units b ∷ b0 units b ∷ a0 units b ∷ b2 units b ∷ [])
     (before_still units x (y + n) h, (before_still units (x + n) y h, (before_still units (x + n + 1) y h, (before_still units x (y + n + 1) h, (before_still units x y h, tt)))))
 
 -- ---- units
@@ -157,13 +159,13 @@ pub fits : (limit n x : ℕ) → x + n ≤ limit → reaches limit n x (pos 0) �
 fits limit n x h = le-leb (x + 0 + n) limit (omega arith)
 
 source_still : (size : Size) (x y log2 : ℕ) (c : Tree.Content) → x + 2 ^ log2 ≤ coded size.w → y + 2 ^ log2 ≤ coded size.h
-    → is_in_picture size x y log2 (vector_of (content_as c)) ≡ true
+    → is_in_picture size (block_at x y log2) (vector_of (content_as c)) ≡ true
 unfolding has_source
 source_still size x y log2 Tree.Copied hx hy = and_from _ _ (fits (coded size.w) (2 ^ log2) x hx) (fits (coded size.h) (2 ^ log2) y hy)
 source_still size x y log2 (Tree.Samples planes) hx hy = refl
 source_still size x y log2 (Tree.Levels mode planes) hx hy = refl
 
-intra_refines : (before : List Moving) (x y log2 : ℕ) → Refines content_as (Tree.intra_read (leaves before) x y log2) (intra_read before x y log2)
+intra_refines : (before : List Moving) (x y log2 : ℕ) → Refines content_as (Tree.intra_read (leaves before) (block_at x y log2)) (intra_read before (block_at x y log2))
 intra_refines before x y log2 =
     refines_bind (λ a. a) content_as (mode_read (candidates_at (leaves before) x y)) _ _ _ (refines_same _) (λ mode.
     refines_expect content_as (Context 10) false _ _
@@ -175,49 +177,49 @@ intra_refines before x y log2 =
     refines_bind (λ a. a) content_as (component_read log2 mode 2 cr) _ _ _ (refines_same _) (λ third.
     refines_give content_as (Tree.Levels mode (first ∷ second ∷ third ∷ [])) (Levels mode (first ∷ second ∷ third ∷ [])) refl))))))))
 
-content_refines : (before : List Moving) (x y log2 : ℕ) → Refines content_as (Tree.content_read (leaves before) x y log2) (content_read before x y log2)
+content_refines : (before : List Moving) (x y log2 : ℕ) → Refines content_as (Tree.content_read (leaves before) (block_at x y log2)) (content_read before (block_at x y log2))
 content_refines before x y log2 =
     refines_bind (λ a. a) content_as (bin Terminate) _ _ _ (refines_same _) (λ pcm.
-    refines_cond content_as pcm (Tree.pcm_read (2 ^ log2 * 2 ^ log2)) (Tree.intra_read (leaves before) x y log2) (pcm_read (2 ^ log2 * 2 ^ log2)) (intra_read before x y log2)
+    refines_cond content_as pcm (Tree.pcm_read (2 ^ log2 * 2 ^ log2)) (Tree.intra_read (leaves before) (block_at x y log2)) (pcm_read (2 ^ log2 * 2 ^ log2)) (intra_read before (block_at x y log2))
     (let n : ℕ = 2 ^ log2 * 2 ^ log2 in
     refines_bind (λ a. a) content_as (samples (n + n + n)) _ _ _ (refines_same _) (λ list. refines_give content_as (Tree.Samples (thirds n list)) (Samples (thirds n list)) refl))
     (intra_refines before x y log2))
 
-pub own_refines : (before : List Moving) (x y log2 : ℕ) → Refines content_as (part_mode_read log2 (Tree.content_read (leaves before) x y log2)) (own_read before x y log2)
+pub own_refines : (before : List Moving) (x y log2 : ℕ) → Refines content_as (part_mode_read log2 (Tree.content_read (leaves before) (block_at x y log2))) (own_read before (block_at x y log2))
 own_refines before x y log2 =
-    refines_cond content_as (log2 == 3) (expect (Context 8) true (Tree.content_read (leaves before) x y log2)) (Tree.content_read (leaves before) x y log2)
-    (expect (Context 8) true (content_read before x y log2)) (content_read before x y log2)
+    refines_cond content_as (log2 == 3) (expect (Context 8) true (Tree.content_read (leaves before) (block_at x y log2))) (Tree.content_read (leaves before) (block_at x y log2))
+    (expect (Context 8) true (content_read before (block_at x y log2))) (content_read before (block_at x y log2))
     (refines_expect content_as (Context 8) true _ _ (content_refines before x y log2)) (content_refines before x y log2)
 
-coded_refines : (kind : SliceKind) (before : List Moving) (x y log2 : ℕ) → Refines content_as (Tree.coded_read kind (leaves before) x y log2) (coded_read kind before x y log2)
+coded_refines : (kind : SliceKind) (before : List Moving) (x y log2 : ℕ) → Refines content_as (Tree.coded_read kind (leaves before) (block_at x y log2)) (coded_read kind before (block_at x y log2))
 coded_refines I before x y log2 = own_refines before x y log2
 coded_refines P before x y log2 =
-    refines_bind (λ a. a) content_as (bin (Context 7)) _ _ (λ intra. cond intra (own_read before x y log2) (move_read before x y log2)) (refines_same _) go
+    refines_bind (λ a. a) content_as (bin (Context 7)) _ _ (λ intra. cond intra (own_read before (block_at x y log2)) (move_read before (block_at x y log2))) (refines_same _) go
   where
     old : Reader Tree.Content
-    old = part_mode_read log2 (Tree.content_read (leaves before) x y log2)
+    old = part_mode_read log2 (Tree.content_read (leaves before) (block_at x y log2))
 
-    go : (b : Bool) → Refines content_as (cond (beq b true) old refuse) (cond b (own_read before x y log2) (move_read before x y log2))
+    go : (b : Bool) → Refines content_as (cond (beq b true) old refuse) (cond b (own_read before (block_at x y log2)) (move_read before (block_at x y log2)))
     go true = own_refines before x y log2
-    go false = refines_refuse content_as (move_read before x y log2)
+    go false = refines_refuse content_as (move_read before (block_at x y log2))
 
 unit_refines : (kind : SliceKind) (size : Size) (before : List Moving) (x y log2 : ℕ) → AreStill before → x + 2 ^ log2 ≤ coded size.w → y + 2 ^ log2 ≤ coded size.h
-    → Refines units_as (Tree.coding_unit_read kind (leaves before) x y log2) (coding_unit_read kind size before x y log2)
+    → Refines units_as (Tree.coding_unit_read kind (leaves before) (block_at x y log2)) (coding_unit_read kind size before (block_at x y log2))
 unfolding Tree.coding_unit_read coding_unit_read
 unit_refines kind size before x y log2 still hx hy =
     refines_expect units_as (Context 0) true _ _
     (refines_bind (λ a. a) units_as (skip_read kind (leaves before) x y) _ _ _ (refines_same _) (λ skipped.
-    refines_bind content_as units_as _ _ _ (λ c. unit_with size x y log2 c)
-    (refines_cond content_as skipped (give Tree.Copied) (Tree.coded_read kind (leaves before) x y log2) (give (Copied (merge before x y log2))) (coded_read kind before x y log2)
-    (refines_give content_as Tree.Copied (Copied (merge before x y log2)) (ap Copied (sym (merge_still before x y log2 still))))
+    refines_bind content_as units_as _ _ _ (λ c. unit_with size (block_at x y log2) c)
+    (refines_cond content_as skipped (give Tree.Copied) (Tree.coded_read kind (leaves before) (block_at x y log2)) (give (Copied (merge before (block_at x y log2)))) (coded_read kind before (block_at x y log2))
+    (refines_give content_as Tree.Copied (Copied (merge before (block_at x y log2))) (ap Copied (sym (merge_still before x y log2 still))))
     (coded_refines kind before x y log2))
     made))
   where
     unit : Tree.Content → Tree.ReadLeaf
-    unit c = record { x = x; y = y; log2 = log2; content = c }
+    unit c = record { block = block_at x y log2; content = c }
 
-    made : (c : Tree.Content) → Refines units_as (give (unit c ∷ [])) (unit_with size x y log2 (content_as c))
-    made c = go (is_in_picture size x y log2 (vector_of (content_as c))) (source_still size x y log2 c hx hy)
+    made : (c : Tree.Content) → Refines units_as (give (unit c ∷ [])) (unit_with size (block_at x y log2) (content_as c))
+    made c = go (is_in_picture size (block_at x y log2) (vector_of (content_as c))) (source_still size x y log2 c hx hy)
       where
         go : (b : Bool) → b ≡ true → Refines units_as (give (unit c ∷ [])) (cond b (give (unit_as (unit c) ∷ [])) refuse)
         go true q = refines_give units_as (unit c ∷ []) (unit_as (unit c) ∷ []) refl
@@ -273,7 +275,7 @@ pub tree_refines : (kind : SliceKind) (size : Size) (depth x y : ℕ) (before : 
 tree_refines kind size zero x y before ex ey still = go (is_inside size x y) refl
   where
     go : (b : Bool) → is_inside size x y ≡ b
-        → Refines units_as (cond b (Tree.coding_unit_read kind (leaves before) x y 3) (give [])) (cond b (coding_unit_read kind size before x y 3) (give []))
+        → Refines units_as (cond b (Tree.coding_unit_read kind (leaves before) (block_at x y 3)) (give [])) (cond b (coding_unit_read kind size before (block_at x y 3)) (give []))
     go true q =
         let p = and_parts _ _ q in
         let hx : x < coded size.w = ltb-true x (coded size.w) p.0 in
@@ -292,10 +294,10 @@ tree_refines kind size (suc depth) x y before ex ey still =
     split' = quarters_read (tree_read kind size depth) (2 ^ (3 + depth)) x y before
 
     flagged : Reader (List Tree.ReadLeaf)
-    flagged = bin (Context (split_context (leaves before) x y (4 + depth))) >>= λ flag. cond flag split (Tree.coding_unit_read kind (leaves before) x y (4 + depth))
+    flagged = bin (Context (split_context (leaves before) (block_at x y (4 + depth)))) >>= λ flag. cond flag split (Tree.coding_unit_read kind (leaves before) (block_at x y (4 + depth)))
 
     flagged' : Reader (List ReadUnit)
-    flagged' = bin (Context (split_context (leaves before) x y (4 + depth))) >>= λ flag. cond flag split' (coding_unit_read kind size before x y (4 + depth))
+    flagged' = bin (Context (split_context (leaves before) (block_at x y (4 + depth)))) >>= λ flag. cond flag split' (coding_unit_read kind size before (block_at x y (4 + depth)))
 
     go : Refines units_as split split' → (a b : Bool) → is_whole size (2 * 2 ^ (3 + depth)) x y ≡ b
         → Refines units_as (cond a (give []) (cond (not b) split flagged)) (cond a (give []) (cond (not b) split' flagged'))
@@ -306,7 +308,7 @@ tree_refines kind size (suc depth) x y before ex ey still =
         let hx : x + 2 * 2 ^ (3 + depth) ≤ coded size.w = leb-true _ _ p.0 in
         let hy : y + 2 * 2 ^ (3 + depth) ≤ coded size.h = leb-true _ _ p.1 in
         let d : 2 ^ (4 + depth) ≡ 2 * 2 ^ (3 + depth) = doubled depth in
-        refines_bind (λ a. a) units_as (bin (Context (split_context (leaves before) x y (4 + depth)))) _ _ _ (refines_same _) (λ flag.
+        refines_bind (λ a. a) units_as (bin (Context (split_context (leaves before) (block_at x y (4 + depth))))) _ _ _ (refines_same _) (λ flag.
         refines_cond units_as flag split _ split' _ r
         (unit_refines kind size before x y (4 + depth) still
         (subst (λ (n : ℕ). x + n ≤ coded size.w) (sym d) hx) (subst (λ (n : ℕ). y + n ≤ coded size.h) (sym d) hy)))

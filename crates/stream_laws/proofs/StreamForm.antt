@@ -4,16 +4,15 @@ use Rattle.std.specs.Prelude.{Option, Some, None, Ok, Result}
 use Rattle.std.specs.List.{AllByRecursion, flat_map}
 use Rattle.std.proofs.lemmas.Bool.{le-ltb}
 use Rattle.std.proofs.lemmas.Grind.{flat_map-append}
-use Rattle.h265_model.specs.declared.extra.Extra.{Extra}
 use Rattle.h265_model.specs.Plain.{Size}
 use Rattle.h265_model.specs.Bits.{◌>>-◌}
-use Rattle.h265_model.specs.Settings.{Settings}
+use Rattle.h265_model.specs.Settings.{Settings, has_segments}
 use Rattle.h265_model.specs.Raster.{Raster, IsRaster}
 use Rattle.h265_model.specs.NalUnits.{NalUnit, IsNalUnit, nal_unit_bytes, stream_bytes, units}
 use Rattle.h265_model.specs.ParamSets.{vps_fields, sps_fields, pps_fields, param_units, read_params}
 use Rattle.h265_model.specs.Stream.{order_count, nal_header}
 use Rattle.h265_model.specs.Decode.{Decoded}
-use Rattle.h265_model.specs.ExtraStream.{has_segments, extra_piece, extra_pieces_after, extra_pieces, extra_stream}
+use Rattle.h265_model.specs.Stream.{picture_piece, pieces_after, pieces, stream_of}
 use Rattle.h265_model.specs.Decode.{Stand, Begun, at_first, at_end, step, shown, at_number, read_units, sets_or_number, decode}
 use Rattle.h265_model.proofs.UnitLaws.{units-stream_bytes}
 use Rattle.h265_model.proofs.ListParts.{all_append}
@@ -45,13 +44,13 @@ pub record ReadsOn (settings : Settings) (segments : Bool) (n number : ℕ) (ras
   pub reads : read_units settings.size segments number stand (us ++ rest) ≡ (read_units settings.size segments next after rest >>- λ others. Ok (raster ∷ others))
 
 -- what has to be known of the NAL units of pictures: they are their pieces, and they are read
-pub record AreRead (settings : Settings) (extra : Extra) (units_for : ℕ → Option Raster → Raster → List NalUnit) : Type 0 where
-  pub pieces : (n : ℕ) (before : Option Raster) (raster : Raster) → IsRaster settings.size raster → extra_piece settings extra n before raster ≡ stream_bytes (units_for n before raster)
+pub record AreRead (settings : Settings) (units_for : ℕ → Option Raster → Raster → List NalUnit) : Type 0 where
+  pub pieces : (n : ℕ) (before : Option Raster) (raster : Raster) → IsRaster settings.size raster → picture_piece settings n before raster ≡ stream_bytes (units_for n before raster)
   pub are : (n : ℕ) (before : Option Raster) (raster : Raster) → IsRaster settings.size raster → AllByRecursion IsNalUnit (units_for n before raster)
   pub read : (n number : ℕ) (before : Option Raster) (raster : Raster) (stand : Stand) (rest : List NalUnit) → IsRaster settings.size raster → IsFollowing settings n before stand.last → stand.begun ≡ None
-      → ReadsOn settings (has_segments extra) n number raster stand (units_for n before raster) rest
+      → ReadsOn settings (has_segments settings.extra) n number raster stand (units_for n before raster) rest
 
-module _ (settings : Settings) (extra : Extra) (units_for : ℕ → Option Raster → Raster → List NalUnit) (each : AreRead settings extra units_for) where
+module _ (settings : Settings) (units_for : ℕ → Option Raster → Raster → List NalUnit) (each : AreRead settings units_for) where
   all_units : ℕ → Option Raster → List Raster → List NalUnit
   all_units n before [] = []
   all_units n before (raster ∷ rasters) = units_for n before raster ++ all_units (n + 1) (Some raster) rasters
@@ -69,22 +68,22 @@ module _ (settings : Settings) (extra : Extra) (units_for : ℕ → Option Raste
       planes_of (Some x) = x.planes
 
   pictures_are_read : (n number : ℕ) (before : Option Raster) (rasters : List Raster) (stand : Stand) → AllByRecursion (IsRaster settings.size) rasters → IsFollowing settings n before stand.last → stand.begun ≡ None
-      → read_units settings.size (has_segments extra) number stand (all_units n before rasters) ≡ Ok rasters
+      → read_units settings.size (has_segments settings.extra) number stand (all_units n before rasters) ≡ Ok rasters
   unfolding all_units read_units
   pictures_are_read n number before [] stand is behind whole = ap (λ (b : Option Begun). at_end number b) whole
   pictures_are_read n number before (raster ∷ rasters) stand is behind whole =
-      let r : ReadsOn settings (has_segments extra) n number raster stand (units_for n before raster) (all_units (n + 1) (Some raster) rasters) =
+      let r : ReadsOn settings (has_segments settings.extra) n number raster stand (units_for n before raster) (all_units (n + 1) (Some raster) rasters) =
       each.read n number before raster stand (all_units (n + 1) (Some raster) rasters) is.0 behind whole in
       r.reads
       ∙ ap (λ (x : Result (List Raster) ℕ). x >>- λ others. Ok (raster ∷ others))
       (pictures_are_read (n + 1) r.next (Some raster) rasters r.after is.1 (follows_on n _ raster r.after.last refl r.last) r.whole)
 
   pieces_are_units : (n : ℕ) (before : Option Raster) (rasters : List Raster) → AllByRecursion (IsRaster settings.size) rasters
-      → flat_map (λ piece. piece) (extra_pieces_after settings extra n before rasters) ≡ stream_bytes (all_units n before rasters)
-  unfolding extra_pieces_after stream_bytes all_units
+      → flat_map (λ piece. piece) (pieces_after settings n before rasters) ≡ stream_bytes (all_units n before rasters)
+  unfolding pieces_after stream_bytes all_units
   pieces_are_units n before [] is = refl
   pieces_are_units n before (raster ∷ rasters) is =
-      ap (λ (l : List ℕ). l ++ flat_map (λ piece. piece) (extra_pieces_after settings extra (n + 1) (Some raster) rasters)) (each.pieces n before raster is.0)
+      ap (λ (l : List ℕ). l ++ flat_map (λ piece. piece) (pieces_after settings (n + 1) (Some raster) rasters)) (each.pieces n before raster is.0)
       ∙ (ap (λ (l : List ℕ). stream_bytes (units_for n before raster) ++ l) (pieces_are_units (n + 1) (Some raster) rasters is.1)
       ∙ sym (flat_map-append nal_unit_bytes (units_for n before raster) (all_units (n + 1) (Some raster) rasters)))
 
@@ -95,11 +94,11 @@ module _ (settings : Settings) (extra : Extra) (units_for : ℕ → Option Raste
       all_append IsNalUnit (units_for n before raster) (all_units (n + 1) (Some raster) rasters) (each.are n before raster is.0) (units_are (n + 1) (Some raster) rasters is.1)
 
   stream_is : (rasters : List Raster) → AllByRecursion (IsRaster settings.size) rasters
-      → extra_stream settings extra rasters ≡ stream_bytes (param_units settings.size (has_segments extra) ++ all_units 0 None rasters)
-  unfolding extra_stream extra_pieces stream_bytes
+      → stream_of settings rasters ≡ stream_bytes (param_units settings.size (has_segments settings.extra) ++ all_units 0 None rasters)
+  unfolding stream_of pieces stream_bytes
   stream_is rasters is =
-      ap (λ (l : List ℕ). flat_map nal_unit_bytes (param_units settings.size (has_segments extra)) ++ l) (pieces_are_units 0 None rasters is)
-      ∙ sym (flat_map-append nal_unit_bytes (param_units settings.size (has_segments extra)) (all_units 0 None rasters))
+      ap (λ (l : List ℕ). flat_map nal_unit_bytes (param_units settings.size (has_segments settings.extra)) ++ l) (pieces_are_units 0 None rasters is)
+      ∙ sym (flat_map-append nal_unit_bytes (param_units settings.size (has_segments settings.extra)) (all_units 0 None rasters))
 
 sets_found : (size : Size) (segments : Bool) (rest : List NalUnit) → read_params (param_units size segments) ≡ Ok (size, segments) → sets_or_number (param_units size segments ++ rest) ≡ Ok (size, segments)
 unfolding param_units
@@ -110,20 +109,20 @@ unfolding param_units
 rest_found size segments rest = refl
 
 -- the law of streams, where parameter sets are read back
-pub stream_is_decoded : (settings : Settings) (extra : Extra) (units_for : ℕ → Option Raster → Raster → List NalUnit) → AreRead settings extra units_for
-    → read_params (param_units settings.size (has_segments extra)) ≡ Ok (settings.size, has_segments extra)
-    → (rasters : List Raster) → AllByRecursion (IsRaster settings.size) rasters → decode (extra_stream settings extra rasters) ≡ Ok (settings.size, rasters)
+pub stream_is_decoded : (settings : Settings) (units_for : ℕ → Option Raster → Raster → List NalUnit) → AreRead settings units_for
+    → read_params (param_units settings.size (has_segments settings.extra)) ≡ Ok (settings.size, has_segments settings.extra)
+    → (rasters : List Raster) → AllByRecursion (IsRaster settings.size) rasters → decode (stream_of settings rasters) ≡ Ok (settings.size, rasters)
 unfolding decode
-stream_is_decoded settings extra units_for each sets rasters is =
+stream_is_decoded settings units_for each sets rasters is =
     let size : Size = settings.size in
-    let segments : Bool = has_segments extra in
-    let rest : List NalUnit = all_units settings extra units_for each 0 None rasters in
+    let segments : Bool = has_segments settings.extra in
+    let rest : List NalUnit = all_units settings units_for each 0 None rasters in
     let us : List NalUnit = param_units size segments ++ rest in
-    let read : units (extra_stream settings extra rasters) ≡ Ok us =
-    ap units (stream_is settings extra units_for each rasters is)
-    ∙ units-stream_bytes us (all_append IsNalUnit (param_units size segments) rest (param_units_are size segments) (units_are settings extra units_for each 0 None rasters is)) in
+    let read : units (stream_of settings rasters) ≡ Ok us =
+    ap units (stream_is settings units_for each rasters is)
+    ∙ units-stream_bytes us (all_append IsNalUnit (param_units size segments) rest (param_units_are size segments) (units_are settings units_for each 0 None rasters is)) in
     let pictures : read_units size segments 3 at_first (drop 3 us) ≡ Ok rasters =
-    ap (λ (l : List NalUnit). read_units size segments 3 at_first l) (rest_found size segments rest) ∙ pictures_are_read settings extra units_for each 0 3 None rasters at_first is refl refl in
-    ap (λ (r : Result (List NalUnit) ℕ). r >>- λ found. (sets_or_number found >>- λ s. (read_units s.0 s.1 3 at_first (drop 3 found) >>- λ ps. Ok (s.0, ps)))) (units_found (extra_stream settings extra rasters) us read)
+    ap (λ (l : List NalUnit). read_units size segments 3 at_first l) (rest_found size segments rest) ∙ pictures_are_read settings units_for each 0 3 None rasters at_first is refl refl in
+    ap (λ (r : Result (List NalUnit) ℕ). r >>- λ found. (sets_or_number found >>- λ s. (read_units s.0 s.1 3 at_first (drop 3 found) >>- λ ps. Ok (s.0, ps)))) (units_found (stream_of settings rasters) us read)
     ∙ (ap (λ (r : Result (Size × Bool) ℕ). r >>- λ s. (read_units s.0 s.1 3 at_first (drop 3 us) >>- λ ps. Ok (s.0, ps))) (sets_found size segments rest sets)
     ∙ ap (λ (r : Result (List Raster) ℕ). r >>- λ ps. Ok (size, ps)) pictures)

@@ -5,7 +5,7 @@ use Rattle.std.proofs.lemmas.Bool.{and_parts, leb-true}
 use Rattle.h265_model.specs.declared.Place.TheVariants.{Context}
 use Rattle.h265_model.specs.declared.leaf.Leaf.{Leaf}
 use Rattle.h265_model.specs.Engine.{Engine, Reader, bin, give, context_read}
-use Rattle.h265_model.specs.Plain.{Size, coded}
+use Rattle.h265_model.specs.Plain.{block_at, Size, coded}
 use Rattle.h265_model.specs.Predict.{is_inside}
 use Rattle.h265_model.specs.Tree.{is_whole, split_context}
 use Rattle.std.proofs.lemmas.Bool.{ltb-true}
@@ -23,19 +23,19 @@ twice k =
     omega arith
 
 split_deep : (size : Size) (list : List Leaf) (depth n x y : ℕ) (e : Engine) (whole : Bool) → 0 < depth → n ≡ 2 ^ (3 + depth) → is_whole size n x y ≡ whole
-    → split_read size list depth x y e ≡ (if not whole then give true else bin (Context (split_context list x y (3 + depth)))) e
+    → split_read size list depth x y e ≡ (if not whole then give true else bin (Context (split_context list (block_at x y (3 + depth))))) e
 unfolding split_read
 split_deep size list zero n x y e whole h q i = absurd (omega arith)
 split_deep size list (suc k) n x y e whole h q i =
     let d : 4 + k ≡ 3 + suc k = omega arith in
-    ap (λ (m : ℕ). (if not (is_whole size m x y) then give true else bin (Context (split_context list x y (4 + k)))) e) (twice k ∙ sym q)
-    ∙ ap (λ (b : Bool). (if not b then give true else bin (Context (split_context list x y (4 + k)))) e) i
-    ∙ ap (λ (m : ℕ). (if not whole then give true else bin (Context (split_context list x y m))) e) d
+    ap (λ (m : ℕ). (if not (is_whole size m x y) then give true else bin (Context (split_context list (block_at x y (4 + k))))) e) (twice k ∙ sym q)
+    ∙ ap (λ (b : Bool). (if not b then give true else bin (Context (split_context list (block_at x y (4 + k))))) e) i
+    ∙ ap (λ (m : ℕ). (if not whole then give true else bin (Context (split_context list (block_at x y m)))) e) d
 
 pub split_part : (size : Size) (list : List Leaf) (depth n x y : ℕ) (e : Engine) → 0 < depth → n ≡ 2 ^ (3 + depth) → is_whole size n x y ≡ false → split_read size list depth x y e ≡ Some (true, e)
 split_part size list depth n x y e h q i = split_deep size list depth n x y e false h q i
 
-pub split_flag : (size : Size) (list : List Leaf) (depth n x y context : ℕ) (r : Option Bool) (e d : Engine) → 0 < depth → n ≡ 2 ^ (3 + depth) → is_whole size n x y ≡ true → depth < 3 → context ≡ split_context list x y (5 - (2 - depth))
+pub split_flag : (size : Size) (list : List Leaf) (depth n x y context : ℕ) (r : Option Bool) (e d : Engine) → 0 < depth → n ≡ 2 ^ (3 + depth) → is_whole size n x y ≡ true → depth < 3 → context ≡ split_context list (block_at x y (5 - (2 - depth)))
     → Answers r (context_read context e) d → Answers r (split_read size list depth x y e) d
 split_flag size list depth n x y context r e d h q i small is answers =
     let m : 5 - (2 - depth) ≡ 3 + depth = omega arith in

@@ -7,7 +7,7 @@ use Rattle.h265_model.specs.declared.leaf.SliceKind.{SliceKind}
 use Rattle.h265_model.specs.declared.leaf.Leaf.{Leaf}
 use Rattle.h265_model.specs.Bits.{◌>>=◌ as and_then}
 use Rattle.h265_model.specs.Engine.{Engine, Reader, bin, give, refuse}
-use Rattle.h265_model.specs.Plain.{Size, ctus, ctu_x, ctu_y}
+use Rattle.h265_model.specs.Plain.{block_at, Size, ctus, ctu_x, ctu_y}
 use Rattle.h265_model.specs.Predict.{is_inside, coding_order}
 use Rattle.h265_model.specs.Motion.{Moving, leaves}
 use Rattle.h265_model.specs.Tree.{ReadUnit, AreModes, tree_read, ctu_read, quarters_read, coding_unit_read, units_after, is_whole, split_context, leaf_of, moving_of}
@@ -29,43 +29,43 @@ parts_read kind size zero x y before = refuse
 parts_read kind size (suc depth) x y before = quarters_read (tree_read kind size depth) (2 ^ (3 + depth)) x y before
 
 abbrev split_then : SliceKind → Size → ℕ → ℕ → ℕ → List Moving → Bool × Engine → Option (List ReadUnit × Engine)
-split_then kind size depth x y before found = (if found.0 then parts_read kind size depth x y before else coding_unit_read kind size before x y (3 + depth)) found.1
+split_then kind size depth x y before found = (if found.0 then parts_read kind size depth x y before else coding_unit_read kind size before (block_at x y (3 + depth))) found.1
 
 pub outside : (kind : SliceKind) (size : Size) (depth x y : ℕ) (before : List Moving) (e : Engine) → is_inside size x y ≡ false → tree_read kind size depth x y before e ≡ Some ([], e)
-outside kind size zero x y before e h = ap (λ (b : Bool). (if b then coding_unit_read kind size before x y 3 else give []) e) h
+outside kind size zero x y before e h = ap (λ (b : Bool). (if b then coding_unit_read kind size before (block_at x y 3) else give []) e) h
 outside kind size (suc depth) x y before e h =
     ap (λ (b : Bool). (if not b then give [] else if not (is_whole size (2 * 2 ^ (3 + depth)) x y) then quarters_read (tree_read kind size depth) (2 ^ (3 + depth)) x y before
-    else (λ e. and_then (bin (Context (split_context (leaves before) x y (4 + depth))) e) (λ found. (if found.0 then quarters_read (tree_read kind size depth) (2 ^ (3 + depth)) x y before else coding_unit_read kind size before x y (4 + depth)) found.1))) e) h
+    else (λ e. and_then (bin (Context (split_context (leaves before) (block_at x y (4 + depth)))) e) (λ found. (if found.0 then quarters_read (tree_read kind size depth) (2 ^ (3 + depth)) x y before else coding_unit_read kind size before (block_at x y (4 + depth))) found.1))) e) h
 
 inside : (kind : SliceKind) (size : Size) (depth x y : ℕ) (before : List Moving) (e : Engine) → is_inside size x y ≡ true
     → tree_read kind size depth x y before e ≡ and_then (split_read size (leaves before) depth x y e) (split_then kind size depth x y before)
 unfolding split_read
-inside kind size zero x y before e h = ap (λ (b : Bool). (if b then coding_unit_read kind size before x y 3 else give []) e) h
+inside kind size zero x y before e h = ap (λ (b : Bool). (if b then coding_unit_read kind size before (block_at x y 3) else give []) e) h
 inside kind size (suc depth) x y before e h =
     ap (λ (b : Bool). (if not b then give [] else if not (is_whole size (2 * 2 ^ (3 + depth)) x y) then quarters_read (tree_read kind size depth) (2 ^ (3 + depth)) x y before
-    else (λ e. and_then (bin (Context (split_context (leaves before) x y (4 + depth))) e) (λ found. (if found.0 then quarters_read (tree_read kind size depth) (2 ^ (3 + depth)) x y before else coding_unit_read kind size before x y (4 + depth)) found.1))) e) h
+    else (λ e. and_then (bin (Context (split_context (leaves before) (block_at x y (4 + depth)))) e) (λ found. (if found.0 then quarters_read (tree_read kind size depth) (2 ^ (3 + depth)) x y before else coding_unit_read kind size before (block_at x y (4 + depth))) found.1))) e) h
     ∙ go (is_whole size (2 * 2 ^ (3 + depth)) x y)
   where
     deep : 4 + depth ≡ 3 + suc depth
     deep = omega arith
 
     flag : Reader Bool
-    flag = bin (Context (split_context (leaves before) x y (4 + depth)))
+    flag = bin (Context (split_context (leaves before) (block_at x y (4 + depth))))
 
     split : Reader (List ReadUnit)
     split = quarters_read (tree_read kind size depth) (2 ^ (3 + depth)) x y before
 
-    go : (w : Bool) → (if not w then split else (λ e. and_then (flag e) (λ found. (if found.0 then split else coding_unit_read kind size before x y (4 + depth)) found.1))) e
+    go : (w : Bool) → (if not w then split else (λ e. and_then (flag e) (λ found. (if found.0 then split else coding_unit_read kind size before (block_at x y (4 + depth))) found.1))) e
         ≡ and_then ((if not w then give true else flag) e) (split_then kind size (suc depth) x y before)
     go false = refl
-    go true = ap (λ (n : ℕ). and_then (flag e) (λ found. (if found.0 then split else coding_unit_read kind size before x y n) found.1)) deep
+    go true = ap (λ (n : ℕ). and_then (flag e) (λ found. (if found.0 then split else coding_unit_read kind size before (block_at x y n)) found.1)) deep
 
 pub split_none : (kind : SliceKind) (size : Size) (depth x y : ℕ) (before : List Moving) (e : Engine) → is_inside size x y ≡ true → split_read size (leaves before) depth x y e ≡ None
     → tree_read kind size depth x y before e ≡ None
 split_none kind size depth x y before e h i = inside kind size depth x y before e h ∙ then_none (split_read size (leaves before) depth x y e) (split_then kind size depth x y before) i
 
 pub split_no : (kind : SliceKind) (size : Size) (depth x y : ℕ) (before : List Moving) (e d : Engine) → is_inside size x y ≡ true → split_read size (leaves before) depth x y e ≡ Some (false, d)
-    → tree_read kind size depth x y before e ≡ coding_unit_read kind size before x y (3 + depth) d
+    → tree_read kind size depth x y before e ≡ coding_unit_read kind size before (block_at x y (3 + depth)) d
 split_no kind size depth x y before e d h i = inside kind size depth x y before e h ∙ then_some (split_read size (leaves before) depth x y e) (false, d) (split_then kind size depth x y before) i
 
 split_yes : (kind : SliceKind) (size : Size) (depth k x y : ℕ) (before : List Moving) (e d : Engine) → depth ≡ suc k → is_inside size x y ≡ true → split_read size (leaves before) depth x y e ≡ Some (true, d)

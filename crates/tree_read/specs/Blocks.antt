@@ -2,7 +2,7 @@
 use Rattle.std.specs.Prelude.{◌≡◌, ◌≤◌, ℕ, zero, suc, ◌+◌, ◌*◌, ◌^◌, Bool, true, false, not, List, if◌then◌else◌}
 use Rattle.h265_model.specs.declared.Place.TheVariants.{Context}
 use Rattle.h265_model.specs.declared.leaf.Leaf.{Leaf}
-use Rattle.h265_model.specs.Plain.{Size, coded}
+use Rattle.h265_model.specs.Plain.{block_at, Size, coded}
 use Rattle.h265_model.specs.Engine.{Reader, give, bin}
 use Rattle.h265_model.specs.Tree.{is_whole, split_context}
 
@@ -10,7 +10,7 @@ use Rattle.h265_model.specs.Tree.{is_whole, split_context}
 unfoldable pub split_read : Size → List Leaf → ℕ → ℕ → ℕ → Reader Bool
 split_read size leaves zero x y = give false
 split_read size leaves (suc depth) x y =
-    if not (is_whole size (2 * 2 ^ (3 + depth)) x y) then give true else bin (Context (split_context leaves x y (4 + depth)))
+    if not (is_whole size (2 * 2 ^ (3 + depth)) x y) then give true else bin (Context (split_context leaves (block_at x y (4 + depth))))
 
 -- a block of this side lies wholly in the coded picture
 pub record IsWhole (size : Size) (log2 x y : ℕ) : Type 0 where

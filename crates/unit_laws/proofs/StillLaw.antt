@@ -8,14 +8,14 @@ use Rattle.h265_model.specs.declared.leaf.Kind.{Kind}
 use Rattle.h265_model.specs.declared.leaf.Kind.TheVariants.{Skip, Pcm, Intra}
 use Rattle.h265_model.specs.declared.leaf.Leaf.{Leaf}
 use Rattle.h265_model.specs.declared.moves.MoveLeaf.{MoveLeaf}
-use Rattle.h265_model.specs.Plain.{Size, ctus, below, context_bin, terminate_bin, joined, leaf_with, ctu_x, ctu_y}
+use Rattle.h265_model.specs.Plain.{block_at, Size, ctus, below, context_bin, terminate_bin, joined, leaf_with, ctu_x, ctu_y}
 use Rattle.h265_model.specs.Predict.{is_inside}
 use Rattle.h265_model.specs.Contexts.{row_start}
 use Rattle.h265_model.specs.Code.{code, contexts_after}
-use Rattle.h265_model.specs.Tree.{Source, Walk, walk_on, and_walk, quarters, coding_unit_walk, no_walk, is_whole, is_last, is_leaf, tree_walk, ctu_items, ctu_with_flag, ctus_items, items_of_row, coding_unit_items, split_context}
+use Rattle.h265_model.specs.Tree.{moving, unit_block, leaf_block, leaf_units, Source, Walk, walk_on, and_walk, quarters, coding_unit_walk, no_walk, is_whole, is_last, is_next, tree_walk, ctu_items, ctu_with_flag, ctus_items, items_of_row, coding_unit_items, split_context}
 use Rattle.h265_model.specs.Slice.{contexts_at, row_code}
 use Rattle.h265_model.specs.Motion.{Moving, leaves, still, still_kind, kind_as_coded, leaf_as_coded, as_coded, coded_after}
-use Rattle.h265_model.specs.Walks.{UnitItems, still_unit, unit_of_kind, move_unit, UnitWalk, then_walk, walk_and, quarters_of, nothing_of, one_of, is_next_leaf, walk_of, ctu_items_of, coded_first, ctu_with_end, ctus_items_of, row_items_of, contexts_of, code_of}
+use Rattle.h265_model.specs.Tree.{UnitItems, still_unit, unit_of_kind, move_unit, coded_first}
 use Rattle.stream_laws.proofs.OldTree.{leaves-append}
 use Rattle.unit_laws.specs.Laws.{EachRowIsStill}
 
@@ -27,7 +27,7 @@ kind_still Pcm = refl
 kind_still (Intra mode) = refl
 
 pub leaf_still : (leaf : Leaf) → leaf_as_coded (still leaf) ≡ leaf
-leaf_still leaf = ap (λ (k : Kind). leaf_with leaf.x leaf.y leaf.log2 k) (kind_still leaf.kind)
+leaf_still leaf = ap (λ (k : Kind). leaf_with leaf.block k) (kind_still leaf.kind)
 
 -- what a unit writes of a leaf that doesn't move
 abbrev pub WritesLeaves : SliceKind → Source → UnitItems → Type 0
@@ -48,17 +48,17 @@ move_writes kind source before leaf = go leaf.kind ∙ still_writes kind source 
 -- ---- the walk of a tree
 
 -- two walks that are at the same place
-pub record Same (w : UnitWalk) (t : Walk) : Type 0 where
+pub record Same (w : Walk MoveLeaf Moving) (t : Walk Leaf Leaf) : Type 0 where
   pub list : w.list ≡ t.list
   pub before : leaves w.before ≡ t.before
   pub left : w.left ≡ map still t.left
 
-abbrev Follows : (List Moving → List MoveLeaf → UnitWalk) → (List Leaf → List Leaf → Walk) → Type 0
+abbrev Follows : (List Moving → List MoveLeaf → Walk MoveLeaf Moving) → (List Leaf → List Leaf → Walk Leaf Leaf) → Type 0
 Follows go go' =
     (before : List Moving) (before' : List Leaf) (left : List MoveLeaf) (left' : List Leaf) → leaves before ≡ before' → left ≡ map still left' → Same (go before left) (go' before' left')
 
-and_same : (w : UnitWalk) (t : Walk) (go : List Moving → List MoveLeaf → UnitWalk) (go' : List Leaf → List Leaf → Walk)
-    → Same w t → Follows go go' → Same (walk_and w go) (and_walk t go')
+and_same : (w : Walk MoveLeaf Moving) (t : Walk Leaf Leaf) (go : List Moving → List MoveLeaf → Walk MoveLeaf Moving) (go' : List Leaf → List Leaf → Walk Leaf Leaf)
+    → Same w t → Follows go go' → Same (and_walk w go) (and_walk t go')
 and_same w t go go' s f =
     let r : Same (go w.before w.left) (go' t.before t.left) = f w.before t.before w.left t.left s.before s.left in
     record {
@@ -67,8 +67,8 @@ and_same w t go go' s f =
       left = r.left;
     }
 
-quarters_same : (go : ℕ → ℕ → List Moving → List MoveLeaf → UnitWalk) (go' : ℕ → ℕ → List Leaf → List Leaf → Walk) (half : ℕ)
-    → ((x y : ℕ) → Follows (go x y) (go' x y)) → (x y : ℕ) → Follows (quarters_of go half x y) (quarters go' half x y)
+quarters_same : (go : ℕ → ℕ → List Moving → List MoveLeaf → Walk MoveLeaf Moving) (go' : ℕ → ℕ → List Leaf → List Leaf → Walk Leaf Leaf) (half : ℕ)
+    → ((x y : ℕ) → Follows (go x y) (go' x y)) → (x y : ℕ) → Follows (quarters go half x y) (quarters go' half x y)
 quarters_same go go' half f x y before before' left left' e g =
     and_same _ _ (go (x + half) (y + half)) (go' (x + half) (y + half))
     (and_same _ _ (go x (y + half)) (go' x (y + half))
@@ -76,14 +76,14 @@ quarters_same go go' half f x y before before' left left' e g =
     (f x (y + half)))
     (f (x + half) (y + half))
 
-nothing_same : Follows nothing_of no_walk
+nothing_same : Follows no_walk no_walk
 nothing_same before before' left left' e g = record { list = refl; before = e; left = g }
 
-one_same : (kind : SliceKind) (source : Source) (unit : UnitItems) → WritesLeaves kind source unit → Follows (one_of unit) (coding_unit_walk kind source)
+one_same : (kind : SliceKind) (source : Source) (unit : UnitItems) → WritesLeaves kind source unit → Follows (coding_unit_walk (moving unit)) (coding_unit_walk (leaf_units kind source))
 one_same kind source unit u before before' left left' e g =
-    subst (λ (l : List MoveLeaf). Same (one_of unit before l) (coding_unit_walk kind source before' left')) (sym g) (go left')
+    subst (λ (l : List MoveLeaf). Same (coding_unit_walk (moving unit) before l) (coding_unit_walk (leaf_units kind source) before' left')) (sym g) (go left')
   where
-    go : (ls : List Leaf) → Same (one_of unit before (map still ls)) (coding_unit_walk kind source before' ls)
+    go : (ls : List Leaf) → Same (coding_unit_walk (moving unit) before (map still ls)) (coding_unit_walk (leaf_units kind source) before' ls)
     go [] = record { list = refl; before = e; left = refl }
     go (leaf ∷ ls) = record {
       list = u before leaf ∙ ap (λ (b : List Leaf). coding_unit_items kind source b leaf) e;
@@ -91,21 +91,21 @@ one_same kind source unit u before before' left left' e g =
       left = refl;
     }
 
-then_same : (a b : List Item) (w : UnitWalk) (t : Walk) → a ≡ b → Same w t → Same (then_walk a w) (walk_on b t)
+then_same : (a b : List Item) (w : Walk MoveLeaf Moving) (t : Walk Leaf Leaf) → a ≡ b → Same w t → Same (walk_on a w) (walk_on b t)
 then_same a b w t e s = record {
   list = ap (λ (l : List Item). l ++ w.list) e ∙ ap (λ (l : List Item). b ++ l) s.list;
   before = s.before;
   left = s.left;
 }
 
-next_same : (log2 : ℕ) (left : List MoveLeaf) (left' : List Leaf) → left ≡ map still left' → is_next_leaf log2 left ≡ is_leaf log2 left'
-next_same log2 left left' g = ap (is_next_leaf log2) g ∙ go left'
+next_same : (log2 : ℕ) (left : List MoveLeaf) (left' : List Leaf) → left ≡ map still left' → is_next unit_block log2 left ≡ is_next leaf_block log2 left'
+next_same log2 left left' g = ap (is_next unit_block log2) g ∙ go left'
   where
-    go : (ls : List Leaf) → is_next_leaf log2 (map still ls) ≡ is_leaf log2 ls
+    go : (ls : List Leaf) → is_next unit_block log2 (map still ls) ≡ is_next leaf_block log2 ls
     go [] = refl
     go (leaf ∷ ls) = refl
 
-chosen : (a b c d : Bool) (w0 w1 w2 w3 : UnitWalk) (t0 t1 t2 t3 : Walk) → c ≡ d → Same w0 t0 → Same w1 t1 → Same w2 t2 → Same w3 t3
+chosen : (a b c d : Bool) (w0 w1 w2 w3 : Walk MoveLeaf Moving) (t0 t1 t2 t3 : Walk Leaf Leaf) → c ≡ d → Same w0 t0 → Same w1 t1 → Same w2 t2 → Same w3 t3
     → Same (cond a w0 (cond b w1 (cond c w2 w3))) (cond a t0 (cond b t1 (cond d t2 t3)))
 chosen true b c d w0 w1 w2 w3 t0 t1 t2 t3 e s0 s1 s2 s3 = s0
 chosen false true c d w0 w1 w2 w3 t0 t1 t2 t3 e s0 s1 s2 s3 = s1
@@ -117,27 +117,27 @@ chosen false false c d w0 w1 w2 w3 t0 t1 t2 t3 e s0 s1 s2 s3 =
     go false = s3
 
 walk_same : (kind : SliceKind) (size : Size) (source : Source) (unit : UnitItems) → WritesLeaves kind source unit
-    → (depth x y : ℕ) → Follows (walk_of unit size depth x y) (tree_walk kind size source depth x y)
+    → (depth x y : ℕ) → Follows (tree_walk (moving unit) size depth x y) (tree_walk (leaf_units kind source) size depth x y)
 walk_same kind size source unit u zero x y before before' left left' e g = go (is_inside size x y)
   where
-    go : (b : Bool) → Same (cond b (one_of unit before left) (nothing_of before left)) (cond b (coding_unit_walk kind source before' left') (no_walk before' left'))
+    go : (b : Bool) → Same (cond b (coding_unit_walk (moving unit) before left) (no_walk before left)) (cond b (coding_unit_walk (leaf_units kind source) before' left') (no_walk before' left'))
     go true = one_same kind source unit u before before' left left' e g
     go false = nothing_same before before' left left' e g
 walk_same kind size source unit u (suc depth) x y before before' left left' e g =
     let half : ℕ = 2 ^ (3 + depth) in
-    let flag : split_context (leaves before) x y (4 + depth) ≡ split_context before' x y (4 + depth) = ap (λ (b : List Leaf). split_context b x y (4 + depth)) e in
-    let split : Same (quarters_of (walk_of unit size depth) half x y before left) (quarters (tree_walk kind size source depth) half x y before' left') =
-    quarters_same (walk_of unit size depth) (tree_walk kind size source depth) half (walk_same kind size source unit u depth) x y before before' left left' e g in
-    let one : Same (one_of unit before left) (coding_unit_walk kind source before' left') = one_same kind source unit u before before' left left' e g in
-    chosen (not (is_inside size x y)) (not (is_whole size (2 * half) x y)) (is_next_leaf (4 + depth) left) (is_leaf (4 + depth) left') _ _ _ _ _ _ _ _
+    let flag : split_context (leaves before) (block_at x y (4 + depth)) ≡ split_context before' (block_at x y (4 + depth)) = ap (λ (b : List Leaf). split_context b (block_at x y (4 + depth))) e in
+    let split : Same (quarters (tree_walk (moving unit) size depth) half x y before left) (quarters (tree_walk (leaf_units kind source) size depth) half x y before' left') =
+    quarters_same (tree_walk (moving unit) size depth) (tree_walk (leaf_units kind source) size depth) half (walk_same kind size source unit u depth) x y before before' left left' e g in
+    let one : Same (coding_unit_walk (moving unit) before left) (coding_unit_walk (leaf_units kind source) before' left') = one_same kind source unit u before before' left left' e g in
+    chosen (not (is_inside size x y)) (not (is_whole size (2 * half) x y)) (is_next unit_block (4 + depth) left) (is_next leaf_block (4 + depth) left') _ _ _ _ _ _ _ _
     (next_same (4 + depth) left left' g)
     (nothing_same before before' left left' e g) split
     (then_same _ _ _ _ (ap (λ (n : ℕ). context_bin false n ∷ []) flag) one)
     (then_same _ _ _ _ (ap (λ (n : ℕ). context_bin true n ∷ []) flag) split)
 
 pub ctu_same : (kind : SliceKind) (size : Size) (source : Source) (unit : UnitItems) → WritesLeaves kind source unit
-    → (before : List Moving) (before' ls : List Leaf) (ctu : ℕ) → leaves before ≡ before' → ctu_items_of unit size before (map still ls) ctu ≡ ctu_items kind size source before' ls ctu
-unfolding ctu_items_of ctu_items
+    → (before : List Moving) (before' ls : List Leaf) (ctu : ℕ) → leaves before ≡ before' → ctu_items (moving unit) size before (map still ls) ctu ≡ ctu_items (leaf_units kind source) size before' ls ctu
+unfolding ctu_items
 ctu_same kind size source unit u before before' ls ctu e = (walk_same kind size source unit u 2 (ctu_x size ctu) (ctu_y size ctu) before before' (map still ls) ls e refl).list
 
 -- ---- rows
@@ -169,37 +169,37 @@ flat_same f g e [] = refl
 flat_same f g e (n ∷ ns) = ap (λ (l : List Item). l ++ flat_map f ns) (e n) ∙ ap (λ (l : List Item). g n ++ l) (flat_same f g e ns)
 
 flag_same : (kind : SliceKind) (size : Size) (source : Source) (unit : UnitItems) → WritesLeaves kind source unit
-    → (ls : List (List Leaf)) (ctu : ℕ) → ctu_with_end unit size (is_last size) (map (map still) ls) ctu ≡ ctu_with_flag kind size source ls ctu
+    → (ls : List (List Leaf)) (ctu : ℕ) → ctu_with_flag (moving unit) size (is_last size) (map (map still) ls) ctu ≡ ctu_with_flag (leaf_units kind source) size (is_last size) ls ctu
 flag_same kind size source unit u ls ctu =
     ap (λ (l : List Item). l ++ terminate_bin (is_last size ctu) ∷ [])
-    (ap (λ (us : List MoveLeaf). ctu_items_of unit size (coded_first (map (map still) ls) ctu) us ctu) (at_same ctu ls)
+    (ap (λ (us : List MoveLeaf). ctu_items (moving unit) size (coded_first (map (map still) ls) ctu) us ctu) (at_same ctu ls)
     ∙ ctu_same kind size source unit u (coded_first (map (map still) ls) ctu) (joined (take ctu ls)) (get_or ls ctu []) ctu
     (ap (λ (us : List MoveLeaf). leaves (coded_after [] us)) (first_same ctu ls) ∙ coded_same [] (joined (take ctu ls))))
 
 ctus_same : (kind : SliceKind) (size : Size) (source : Source) (unit : UnitItems) → WritesLeaves kind source unit
-    → (ls : List (List Leaf)) (row n : ℕ) → ctus_items_of unit size (is_last size) (map (map still) ls) row n ≡ ctus_items kind size source ls row n
+    → (ls : List (List Leaf)) (row n : ℕ) → ctus_items (moving unit) size (is_last size) (map (map still) ls) row n ≡ ctus_items (leaf_units kind source) size (is_last size) ls row n
 ctus_same kind size source unit u ls row n = flat_same _ _ (λ i. flag_same kind size source unit u ls (row * ctus size.w + i)) (below n)
 
 row_same : (kind : SliceKind) (size : Size) (source : Source) (unit : UnitItems) → WritesLeaves kind source unit
-    → (ls : List (List Leaf)) (row : ℕ) → row_items_of unit size (map (map still) ls) row ≡ items_of_row kind size source ls row
-unfolding row_items_of items_of_row
+    → (ls : List (List Leaf)) (row : ℕ) → items_of_row (moving unit) size (map (map still) ls) row ≡ items_of_row (leaf_units kind source) size ls row
+unfolding items_of_row
 row_same kind size source unit u ls row =
     ap (λ (l : List Item). l ++ cond (row + 1 == ctus size.h) [] (terminate_bin true ∷ [])) (ctus_same kind size source unit u ls row (ctus size.w))
 
 pub contexts_same : (kind : SliceKind) (size : Size) (source : Source) (unit : UnitItems) → WritesLeaves kind source unit
-    → (ls : List (List Leaf)) (row : ℕ) → contexts_of kind unit size (map (map still) ls) row ≡ contexts_at kind size source ls row
-unfolding contexts_of contexts_at
+    → (ls : List (List Leaf)) (row : ℕ) → contexts_at kind (moving unit) size (map (map still) ls) row ≡ contexts_at kind (leaf_units kind source) size ls row
+unfolding contexts_at
 contexts_same kind size source unit u ls zero = refl
 contexts_same kind size source unit u ls (suc row) =
     ap (row_start kind (ctus size.w) (suc row))
-    (ap (λ (l : List Item). contexts_after l (contexts_of kind unit size (map (map still) ls) row)) (ctus_same kind size source unit u ls row 2)
-    ∙ ap (contexts_after (ctus_items kind size source ls row 2)) (contexts_same kind size source unit u ls row))
+    (ap (λ (l : List Item). contexts_after l (contexts_at kind (moving unit) size (map (map still) ls) row)) (ctus_same kind size source unit u ls row 2)
+    ∙ ap (contexts_after (ctus_items (leaf_units kind source) size (is_last size) ls row 2)) (contexts_same kind size source unit u ls row))
 
 code_same : (kind : SliceKind) (size : Size) (source : Source) (unit : UnitItems) → WritesLeaves kind source unit
-    → (ls : List (List Leaf)) (row : ℕ) → code_of kind unit size (map (map still) ls) row ≡ row_code kind size source ls row
+    → (ls : List (List Leaf)) (row : ℕ) → row_code kind (moving unit) size (map (map still) ls) row ≡ row_code kind (leaf_units kind source) size ls row
 code_same kind size source unit u ls row =
-    ap (λ (l : List Item). code l (contexts_of kind unit size (map (map still) ls) row)) (row_same kind size source unit u ls row)
-    ∙ ap (code (items_of_row kind size source ls row)) (contexts_same kind size source unit u ls row)
+    ap (λ (l : List Item). code l (contexts_at kind (moving unit) size (map (map still) ls) row)) (row_same kind size source unit u ls row)
+    ∙ ap (code (items_of_row (leaf_units kind source) size ls row)) (contexts_same kind size source unit u ls row)
 
 pub rows_are_still : EachRowIsStill
 rows_are_still = (

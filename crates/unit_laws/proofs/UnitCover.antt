@@ -8,7 +8,7 @@ use Rattle.h265_model.specs.declared.leaf.Leaf.{Leaf}
 use Rattle.h265_model.specs.declared.moves.MoveLeaf.{MoveLeaf}
 use Rattle.h265_model.specs.declared.moves.MoveKind.{MoveKind}
 use Rattle.h265_model.specs.declared.moves.MoveKind.TheVariants as moves
-use Rattle.h265_model.specs.Plain.{Size, ctus, joined, ctu_x, ctu_y}
+use Rattle.h265_model.specs.Plain.{block_at, Size, ctus, joined, ctu_x, ctu_y}
 use Rattle.h265_model.specs.Predict.{is_inside}
 use Rattle.h265_model.specs.Tree.{IsTree, IsLawfulTree, IsCodingUnit, AreQuarters, AreLawfulTrees, IsMode, AreModes, IsAllowed, AreAllowed, is_whole}
 use Rattle.h265_model.specs.Motion.{Moving, leaf_as_coded, kind_as_coded, as_coded}
@@ -27,14 +27,14 @@ from-append (u ∷ a) b = ap (λ (l : List Leaf). leaf_as_coded u ∷ l) (from-a
 
 -- ---- modes and kinds
 
-one_mode : (kind : SliceKind) (size : Size) (before : List Moving) (x y log2 : ℕ) (k : MoveKind) → CanStand kind size before x y log2 k → IsMode (kind_as_coded k)
+one_mode : (kind : SliceKind) (size : Size) (before : List Moving) (x y log2 : ℕ) (k : MoveKind) → CanStand kind size before (block_at x y log2) k → IsMode (kind_as_coded k)
 one_mode kind size before x y log2 moves.Skip h = tt
 one_mode kind size before x y log2 (moves.Move v) h = tt
 one_mode kind size before x y log2 moves.Pcm h = tt
 one_mode I size before x y log2 (moves.Intra m) h = h
 one_mode P size before x y log2 (moves.Intra m) h = h
 
-one_allowed : (kind : SliceKind) (size : Size) (before : List Moving) (x y log2 : ℕ) (k : MoveKind) → CanStand kind size before x y log2 k → IsAllowed kind (kind_as_coded k)
+one_allowed : (kind : SliceKind) (size : Size) (before : List Moving) (x y log2 : ℕ) (k : MoveKind) → CanStand kind size before (block_at x y log2) k → IsAllowed kind (kind_as_coded k)
 one_allowed I size before x y log2 moves.Skip h = elim h [ ]
 one_allowed I size before x y log2 (moves.Move v) h = refl
 one_allowed I size before x y log2 moves.Pcm h = refl
@@ -43,15 +43,15 @@ one_allowed P size before x y log2 k h = tt
 
 pub stand_modes : (kind : SliceKind) (size : Size) (before : List Moving) (us : List MoveLeaf) → CanStandAll kind size before us → AreModes (leaves_from us)
 stand_modes kind size before [] h = tt
-stand_modes kind size before (u ∷ us) h = (one_mode kind size before u.x u.y u.log2 u.kind h.0, stand_modes kind size (before ++ as_coded before u ∷ []) us h.1)
+stand_modes kind size before (u ∷ us) h = (one_mode kind size before u.block.x u.block.y u.block.log2 u.kind h.0, stand_modes kind size (before ++ as_coded before u ∷ []) us h.1)
 
 stand_allowed : (kind : SliceKind) (size : Size) (before : List Moving) (us : List MoveLeaf) → CanStandAll kind size before us → AreAllowed kind (leaves_from us)
 stand_allowed kind size before [] h = tt
-stand_allowed kind size before (u ∷ us) h = (one_allowed kind size before u.x u.y u.log2 u.kind h.0, stand_allowed kind size (before ++ as_coded before u ∷ []) us h.1)
+stand_allowed kind size before (u ∷ us) h = (one_allowed kind size before u.block.x u.block.y u.block.log2 u.kind h.0, stand_allowed kind size (before ++ as_coded before u ∷ []) us h.1)
 
 -- ---- trees
 
-one_leaf : (x y log2 : ℕ) (us : List MoveLeaf) → AreModes (leaves_from us) → IsOneUnit x y log2 us → IsCodingUnit x y log2 (leaves_from us)
+one_leaf : (x y log2 : ℕ) (us : List MoveLeaf) → AreModes (leaves_from us) → IsOneUnit (block_at x y log2) us → IsCodingUnit (block_at x y log2) (leaves_from us)
 one_leaf x y log2 us modes u = record {
   kind = kind_as_coded u.kind;
   one = ap leaves_from u.one;
@@ -61,7 +61,7 @@ one_leaf x y log2 us modes u = record {
 tree_leaves : (size : Size) (depth x y : ℕ) (us : List MoveLeaf) → AreModes (leaves_from us) → IsUnitTree size depth x y us → IsTree size depth x y (leaves_from us)
 tree_leaves size zero x y us modes t = go (is_inside size x y) t
   where
-    go : (b : Bool) → MatchBool b (IsOneUnit x y 3 us) (us ≡ []) → MatchBool b (IsCodingUnit x y 3 (leaves_from us)) (leaves_from us ≡ [])
+    go : (b : Bool) → MatchBool b (IsOneUnit (block_at x y 3) us) (us ≡ []) → MatchBool b (IsCodingUnit (block_at x y 3) (leaves_from us)) (leaves_from us ≡ [])
     go true u = one_leaf x y 3 us modes u
     go false none = ap leaves_from none
 tree_leaves size (suc depth) x y us modes t = go (is_inside size x y) (is_whole size (2 * half) x y) t (λ px py l m q. tree_leaves size depth px py l m q)
@@ -100,8 +100,8 @@ tree_leaves size (suc depth) x y us modes t = go (is_inside size x y) (is_whole 
           bottom_right = lower (x + half) (y + half) q.fourth (all_back Fine ((a ++ b) ++ c) d m) q.bottom_right;
         }
 
-    go : (a b : Bool) → MatchBool a (MatchBool b (IsOneUnit x y (4 + depth) us ⊎ AreFourParts (IsUnitTree size depth) half x y us) (AreFourParts (IsUnitTree size depth) half x y us)) (us ≡ []) → Lower
-        → MatchBool a (MatchBool b (IsCodingUnit x y (4 + depth) (leaves_from us) ⊎ AreQuarters (IsTree size depth) half x y (leaves_from us)) (AreQuarters (IsTree size depth) half x y (leaves_from us))) (leaves_from us ≡ [])
+    go : (a b : Bool) → MatchBool a (MatchBool b (IsOneUnit (block_at x y (4 + depth)) us ⊎ AreFourParts (IsUnitTree size depth) half x y us) (AreFourParts (IsUnitTree size depth) half x y us)) (us ≡ []) → Lower
+        → MatchBool a (MatchBool b (IsCodingUnit (block_at x y (4 + depth)) (leaves_from us) ⊎ AreQuarters (IsTree size depth) half x y (leaves_from us)) (AreQuarters (IsTree size depth) half x y (leaves_from us))) (leaves_from us ≡ [])
     go false b none lower = ap leaves_from none
     go true false q lower = four q lower
     go true true u lower = ⊎_elim (λ v. inl (one_leaf x y (4 + depth) us modes v)) (λ q. inr (four q lower)) u

@@ -11,15 +11,15 @@ use Rattle.h265_model.specs.declared.moves.Vector.{Vector}
 use Rattle.h265_model.specs.declared.moves.MoveLeaf.{MoveLeaf}
 use Rattle.h265_model.specs.declared.moves.MoveKind.{MoveKind}
 use Rattle.h265_model.specs.declared.moves.MoveKind.TheVariants as moves
-use Rattle.h265_model.specs.Plain.{Size, ctus, context_bin, bypass_bin, terminate_bin, ctu_x, ctu_y}
+use Rattle.h265_model.specs.Plain.{block_at, Size, ctus, context_bin, bypass_bin, terminate_bin, ctu_x, ctu_y}
 use Rattle.h265_model.specs.Code.{Plain, Filled, GoesOn, IsWellFormed}
 use Rattle.h265_model.specs.Predict.{is_inside}
 use Rattle.h265_model.specs.Binarise.{eg, bypass_bins}
 use Rattle.h265_model.specs.Residual.{IsSide, eight, is_negative}
-use Rattle.h265_model.specs.Tree.{Source, IsSource, split_context, is_whole, is_last}
+use Rattle.h265_model.specs.Tree.{moving, unit_block, Source, IsSource, split_context, is_whole, is_last}
 use Rattle.h265_model.specs.Motion.{Moving, leaves, leaf_as_coded, predictors, predictor, difference, greater1_of, size_items, part_items, difference_items, second_is_nearer, move_items}
 use Rattle.h265_model.specs.Tree.{ends_row}
-use Rattle.h265_model.specs.Walks.{UnitWalk, then_walk, walk_and, quarters_of, nothing_of, one_of, is_next_leaf, walk_of, ctu_items_of, coded_first, ctu_with_end, ctus_items_of, row_items_of, segment_items_of, moved_unit, unit_of_kind, move_unit}
+use Rattle.h265_model.specs.Tree.{Walk, walk_on, and_walk, quarters, no_walk, coding_unit_walk, is_next, tree_walk, ctu_items, coded_first, ctu_with_flag, ctus_items, items_of_row, items_of_segment, moved_unit, unit_of_kind, move_unit}
 use Rattle.h265_model.proofs.ListParts.{all_append}
 use Rattle.h265_laws.proofs.FormLaw.{AreFine, fine_append, fine_bypass, Continues, continues_none, continues_append, continues_fine}
 use Rattle.h265_laws.proofs.RowForm.{skip_small, split_small, unit_continues}
@@ -60,9 +60,9 @@ move_fine v both = (
 moved_fine : (before : List Moving) (unit : MoveLeaf) (v : Vector) → AreFine (moved_unit before unit v)
 unfolding moved_unit
 moved_fine before unit v =
-    (omega arith, (skip_small (leaves before) unit.x unit.y, (omega arith, (omega arith, move_fine v (predictors before unit.x unit.y unit.log2)))))
+    (omega arith, (skip_small (leaves before) unit.block.x unit.block.y, (omega arith, (omega arith, move_fine v (predictors before unit.block)))))
 
-move_unit_continues : (kind : SliceKind) (source : Source) (before : List Moving) (unit : MoveLeaf) → IsSource source → IsSide unit.log2 → Continues (move_unit kind source before unit)
+move_unit_continues : (kind : SliceKind) (source : Source) (before : List Moving) (unit : MoveLeaf) → IsSource source → IsSide unit.block.log2 → Continues (move_unit kind source before unit)
 unfolding move_unit
 move_unit_continues kind source before unit is side = go unit.kind
   where
@@ -79,18 +79,18 @@ move_unit_continues kind source before unit is side = go unit.kind
 
 -- units with sides of 8, 16 or 32
 abbrev pub UnitsHaveSides : List MoveLeaf → Type 0
-UnitsHaveSides units = AllByRecursion (λ unit. IsSide unit.log2) units
+UnitsHaveSides units = AllByRecursion (λ unit. IsSide unit.block.log2) units
 
 abbrev pub AllUnitsHaveSides : List (List MoveLeaf) → Type 0
 AllUnitsHaveSides units = (ctu : ℕ) → UnitsHaveSides (get_or units ctu [])
 
-one_side : (x y log2 : ℕ) (units : List MoveLeaf) → IsSide log2 → IsOneUnit x y log2 units → UnitsHaveSides units
+one_side : (x y log2 : ℕ) (units : List MoveLeaf) → IsSide log2 → IsOneUnit (block_at x y log2) units → UnitsHaveSides units
 one_side x y log2 units side u = subst UnitsHaveSides (sym u.one) (side, tt)
 
 tree_sides : (size : Size) (depth x y : ℕ) (units : List MoveLeaf) → depth < 3 → IsUnitTree size depth x y units → UnitsHaveSides units
 tree_sides size zero x y units small t = go (is_inside size x y) t
   where
-    go : (b : Bool) → MatchBool b (IsOneUnit x y 3 units) (units ≡ []) → UnitsHaveSides units
+    go : (b : Bool) → MatchBool b (IsOneUnit (block_at x y 3) units) (units ≡ []) → UnitsHaveSides units
     go true u = one_side x y 3 units eight u
     go false none = subst UnitsHaveSides (sym none) tt
 tree_sides size (suc depth) x y units small t = go (is_inside size x y) (is_whole size (2 * half) x y) t (λ px py us q. tree_sides size depth px py us (omega arith) q)
@@ -102,7 +102,7 @@ tree_sides size (suc depth) x y units small t = go (is_inside size x y) (is_whol
     Lower = (px py : ℕ) (us : List MoveLeaf) → IsUnitTree size depth px py us → UnitsHaveSides us
 
     Sided : MoveLeaf → Type 0
-    Sided unit = IsSide unit.log2
+    Sided unit = IsSide unit.block.log2
 
     four : AreFourParts (IsUnitTree size depth) half x y units → Lower → UnitsHaveSides units
     four q lower =
@@ -112,7 +112,7 @@ tree_sides size (suc depth) x y units small t = go (is_inside size x y) (is_whol
         (all_append Sided q.first q.second (lower _ _ q.first q.top_left) (lower _ _ q.second q.top_right)) (lower _ _ q.third q.bottom_left))
         (lower _ _ q.fourth q.bottom_right))
 
-    go : (a b : Bool) → MatchBool a (MatchBool b (IsOneUnit x y (4 + depth) units ⊎ AreFourParts (IsUnitTree size depth) half x y units) (AreFourParts (IsUnitTree size depth) half x y units)) (units ≡ []) → Lower → UnitsHaveSides units
+    go : (a b : Bool) → MatchBool a (MatchBool b (IsOneUnit (block_at x y (4 + depth)) units ⊎ AreFourParts (IsUnitTree size depth) half x y units) (AreFourParts (IsUnitTree size depth) half x y units)) (units ≡ []) → Lower → UnitsHaveSides units
     go false b none lower = subst UnitsHaveSides (sym none) tt
     go true false q lower = four q lower
     go true true u lower = ⊎_elim (λ v. one_side x y (4 + depth) units (depth_side depth (omega arith)) v) (λ q. four q lower) u
@@ -126,41 +126,41 @@ lawful_sides kind size units total many are ctu =
 
 -- ---- trees
 
-record WalksOn (w : UnitWalk) : Type 0 where
+record WalksOn (w : Walk MoveLeaf Moving) : Type 0 where
   list : Continues w.list
   left : UnitsHaveSides w.left
 
-walks_on : (list : List Item) (w : UnitWalk) → Continues list → WalksOn w → WalksOn (then_walk list w)
+walks_on : (list : List Item) (w : Walk MoveLeaf Moving) → Continues list → WalksOn w → WalksOn (walk_on list w)
 walks_on list w h k = record { list = continues_append list w.list h k.list; left = k.left }
 
-walks_both : (w : UnitWalk) (go : List Moving → List MoveLeaf → UnitWalk) → WalksOn w → ((before : List Moving) (left : List MoveLeaf) → UnitsHaveSides left → WalksOn (go before left)) → WalksOn (walk_and w go)
+walks_both : (w : Walk MoveLeaf Moving) (go : List Moving → List MoveLeaf → Walk MoveLeaf Moving) → WalksOn w → ((before : List Moving) (left : List MoveLeaf) → UnitsHaveSides left → WalksOn (go before left)) → WalksOn (and_walk w go)
 walks_both w go h k = walks_on w.list (go w.before w.left) h.list (k w.before w.left h.left)
 
 module _ (kind : SliceKind) (size : Size) (source : Source) (is : IsSource source) where
-  one_walks : (before : List Moving) (left : List MoveLeaf) → UnitsHaveSides left → WalksOn (one_of (move_unit kind source) before left)
+  one_walks : (before : List Moving) (left : List MoveLeaf) → UnitsHaveSides left → WalksOn (coding_unit_walk (moving (move_unit kind source)) before left)
   one_walks before [] h = record { list = continues_none; left = tt }
   one_walks before (leaf ∷ left) h = record { list = move_unit_continues kind source before leaf is h.0; left = h.1 }
 
-  tree_walks : (depth x y : ℕ) (before : List Moving) (left : List MoveLeaf) → UnitsHaveSides left → WalksOn (walk_of (move_unit kind source) size depth x y before left)
+  tree_walks : (depth x y : ℕ) (before : List Moving) (left : List MoveLeaf) → UnitsHaveSides left → WalksOn (tree_walk (moving (move_unit kind source)) size depth x y before left)
   tree_walks zero x y before left h = go (is_inside size x y)
     where
-      go : (b : Bool) → WalksOn (cond b (one_of (move_unit kind source) before left) (nothing_of before left))
+      go : (b : Bool) → WalksOn (cond b (coding_unit_walk (moving (move_unit kind source)) before left) (no_walk before left))
       go true = one_walks before left h
       go false = record { list = continues_none; left = h }
   tree_walks (suc depth) x y before left h =
-      go (not (is_inside size x y)) (not (is_whole size (2 * half) x y)) (is_next_leaf (4 + depth) left) (λ px py b l k. tree_walks depth px py b l k)
+      go (not (is_inside size x y)) (not (is_whole size (2 * half) x y)) (is_next unit_block (4 + depth) left) (λ px py b l k. tree_walks depth px py b l k)
     where
       half : ℕ
       half = 2 ^ (3 + depth)
 
       Lower : Type 0
-      Lower = (px py : ℕ) (b : List Moving) (l : List MoveLeaf) → UnitsHaveSides l → WalksOn (walk_of (move_unit kind source) size depth px py b l)
+      Lower = (px py : ℕ) (b : List Moving) (l : List MoveLeaf) → UnitsHaveSides l → WalksOn (tree_walk (moving (move_unit kind source)) size depth px py b l)
 
-      split : UnitWalk
-      split = quarters_of (walk_of (move_unit kind source) size depth) half x y before left
+      split : Walk MoveLeaf Moving
+      split = quarters (tree_walk (moving (move_unit kind source)) size depth) half x y before left
 
       flag : Bool → List Item
-      flag value = context_bin value (split_context (leaves before) x y (4 + depth)) ∷ []
+      flag value = context_bin value (split_context (leaves before) (block_at x y (4 + depth))) ∷ []
 
       flag_continues : (value : Bool) → Continues (flag value)
       flag_continues value = continues_fine (flag value) (split_small (leaves before) x y (4 + depth), tt)
@@ -169,21 +169,21 @@ module _ (kind : SliceKind) (size : Size) (source : Source) (is : IsSource sourc
       split_walks lower =
           walks_both _ _ (walks_both _ _ (walks_both _ _ (lower x y before left h) (lower (x + half) y)) (lower x (y + half))) (lower (x + half) (y + half))
 
-      go : (a b c : Bool) → Lower → WalksOn (cond a (nothing_of before left) (cond b split (cond c (then_walk (flag false) (one_of (move_unit kind source) before left)) (then_walk (flag true) split))))
+      go : (a b c : Bool) → Lower → WalksOn (cond a (no_walk before left) (cond b split (cond c (walk_on (flag false) (coding_unit_walk (moving (move_unit kind source)) before left)) (walk_on (flag true) split))))
       go true b c lower = record { list = continues_none; left = h }
       go false true c lower = split_walks lower
       go false false true lower = walks_on (flag false) _ (flag_continues false) (one_walks before left h)
       go false false false lower = walks_on (flag true) _ (flag_continues true) (split_walks lower)
 
-  ctu_continues : (before : List Moving) (units : List MoveLeaf) (ctu : ℕ) → UnitsHaveSides units → Continues (ctu_items_of (move_unit kind source) size before units ctu)
-  unfolding ctu_items_of
+  ctu_continues : (before : List Moving) (units : List MoveLeaf) (ctu : ℕ) → UnitsHaveSides units → Continues (ctu_items (moving (move_unit kind source)) size before units ctu)
+  unfolding ctu_items
   ctu_continues before units ctu h = (tree_walks 2 (ctu_x size ctu) (ctu_y size ctu) before units h).list
 
   -- ---- rows
 
-  with_end : (ends : ℕ → Bool) (units : List (List MoveLeaf)) (ctu : ℕ) → AllUnitsHaveSides units → ends ctu ≡ false → Continues (ctu_with_end (move_unit kind source) size ends units ctu)
+  with_end : (ends : ℕ → Bool) (units : List (List MoveLeaf)) (ctu : ℕ) → AllUnitsHaveSides units → ends ctu ≡ false → Continues (ctu_with_flag (moving (move_unit kind source)) size ends units ctu)
   with_end ends units ctu h e =
-      continues_append (ctu_items_of (move_unit kind source) size (coded_first units ctu) (get_or units ctu []) ctu) _ (ctu_continues _ _ ctu (h ctu))
+      continues_append (ctu_items (moving (move_unit kind source)) size (coded_first units ctu) (get_or units ctu []) ctu) _ (ctu_continues _ _ ctu (h ctu))
       (continues_fine (terminate_bin (ends ctu) ∷ []) (e, tt))
 
   -- coding tree units of which none ends the slice segment
@@ -192,7 +192,7 @@ module _ (kind : SliceKind) (size : Size) (source : Source) (is : IsSource sourc
   before_last ends units ctu zero h none = continues_none
   before_last ends units ctu (suc n) h none =
       let here : ctu + 0 ≡ ctu = omega arith in
-      continues_append (ctu_with_end (move_unit kind source) size ends units ctu) _
+      continues_append (ctu_with_flag (moving (move_unit kind source)) size ends units ctu) _
       (with_end ends units ctu h (ap ends (sym here) ∙ none 0 (omega arith)))
       (before_last ends units (suc ctu) n h (λ i k. let e : suc ctu + i ≡ ctu + suc i = omega arith in ap ends e ∙ none (suc i) (omega arith)))
 
@@ -200,10 +200,10 @@ module _ (kind : SliceKind) (size : Size) (source : Source) (is : IsSource sourc
   to_last : (ends : ℕ → Bool) (units : List (List MoveLeaf)) (ctu n : ℕ) → AllUnitsHaveSides units → ((i : ℕ) → i < n → ends (ctu + i) ≡ false) → ends (ctu + n) ≡ true
       → IsWellFormed (items_from (move_unit kind source) size ends units ctu (suc n)) × GoesOn Filled (items_from (move_unit kind source) size ends units ctu (suc n))
   to_last ends units ctu zero h none last =
-      let list : List Item = ctu_items_of (move_unit kind source) size (coded_first units ctu) (get_or units ctu []) ctu in
+      let list : List Item = ctu_items (moving (move_unit kind source)) size (coded_first units ctu) (get_or units ctu []) ctu in
       let c : Continues list = ctu_continues _ _ ctu (h ctu) in
       let here : ctu ≡ ctu + 0 = omega arith in
-      let e : ctu_with_end (move_unit kind source) size ends units ctu ++ [] ≡ list ++ terminate_bin true ∷ [] = append-nil _ ∙ ap (λ (b : Bool). list ++ terminate_bin b ∷ []) (ap ends here ∙ last) in (
+      let e : ctu_with_flag (moving (move_unit kind source)) size ends units ctu ++ [] ≡ list ++ terminate_bin true ∷ [] = append-nil _ ∙ ap (λ (b : Bool). list ++ terminate_bin b ∷ []) (ap ends here ∙ last) in (
         subst (λ (l : List Item). GoesOn Plain l) (sym e) (c.plain (terminate_bin true ∷ []) (tt, tt) (tt, tt)),
         subst (λ (l : List Item). GoesOn Filled l) (sym e) (c.filled (terminate_bin true ∷ []) (tt, tt) (tt, tt)),
       )
@@ -211,15 +211,15 @@ module _ (kind : SliceKind) (size : Size) (source : Source) (is : IsSource sourc
       let e : suc ctu + n ≡ ctu + suc n = omega arith in
       let here : ctu + 0 ≡ ctu = omega arith in
       let later = to_last ends units (suc ctu) n h (λ i k. let e : suc ctu + i ≡ ctu + suc i = omega arith in ap ends e ∙ none (suc i) (omega arith)) (ap ends e ∙ last) in
-      let c : Continues (ctu_with_end (move_unit kind source) size ends units ctu) = with_end ends units ctu h (ap ends (sym here) ∙ none 0 (omega arith)) in
+      let c : Continues (ctu_with_flag (moving (move_unit kind source)) size ends units ctu) = with_end ends units ctu h (ap ends (sym here) ∙ none 0 (omega arith)) in
       (c.plain (items_from (move_unit kind source) size ends units (suc ctu) (suc n)) later.0 later.1, c.filled (items_from (move_unit kind source) size ends units (suc ctu) (suc n)) later.0 later.1)
 
   turned : (a b : ℕ) → a * b ≡ b * a
   turned a b = omega arith
 
   -- a row of a slice
-  pub slice_form : (units : List (List MoveLeaf)) (row : ℕ) → AllUnitsHaveSides units → 0 < ctus size.w → row < ctus size.h → IsWellFormed (row_items_of (move_unit kind source) size units row)
-  unfolding row_items_of
+  pub slice_form : (units : List (List MoveLeaf)) (row : ℕ) → AllUnitsHaveSides units → 0 < ctus size.w → row < ctus size.h → IsWellFormed (items_of_row (moving (move_unit kind source)) size units row)
+  unfolding items_of_row
   slice_form units row h some few = go (row + 1 == ctus size.h) refl
     where
       w : ℕ
@@ -228,10 +228,10 @@ module _ (kind : SliceKind) (size : Size) (source : Source) (is : IsSource sourc
       first : ℕ
       first = row * w
 
-      same : ctus_items_of (move_unit kind source) size (is_last size) units row w ≡ items_from (move_unit kind source) size (is_last size) units first w
+      same : ctus_items (moving (move_unit kind source)) size (is_last size) units row w ≡ items_from (move_unit kind source) size (is_last size) units first w
       same = row_order (move_unit kind source) size (is_last size) units row w
 
-      go : (b : Bool) → (row + 1 == ctus size.h) ≡ b → IsWellFormed (ctus_items_of (move_unit kind source) size (is_last size) units row w ++ cond b [] (terminate_bin true ∷ []))
+      go : (b : Bool) → (row + 1 == ctus size.h) ≡ b → IsWellFormed (ctus_items (moving (move_unit kind source)) size (is_last size) units row w ++ cond b [] (terminate_bin true ∷ []))
       go true e =
           let last : row + 1 ≡ ctus size.h = eqb-true _ _ e in
           let all : first + w ≡ w * ctus size.h = (let a : first + w ≡ (row + 1) * w = omega arith in a ∙ (ap (λ (n : ℕ). n * w) last ∙ turned (ctus size.h) w)) in
@@ -249,8 +249,8 @@ module _ (kind : SliceKind) (size : Size) (source : Source) (is : IsSource sourc
           subst (λ (l : List Item). GoesOn Plain (l ++ terminate_bin true ∷ [])) (sym same) (c.plain (terminate_bin true ∷ []) (tt, tt) (tt, tt))
 
   -- a row that is a segment of its own
-  pub segment_form : (units : List (List MoveLeaf)) (row : ℕ) → AllUnitsHaveSides units → 0 < ctus size.w → IsWellFormed (segment_items_of (move_unit kind source) size units row)
-  unfolding segment_items_of
+  pub segment_form : (units : List (List MoveLeaf)) (row : ℕ) → AllUnitsHaveSides units → 0 < ctus size.w → IsWellFormed (items_of_segment (moving (move_unit kind source)) size units row)
+  unfolding items_of_segment
   segment_form units row h some =
       let w : ℕ = ctus size.w in
       let first : ℕ = row * w in

@@ -35,7 +35,7 @@ kind_read now size before unit (moves.Intra mode) = refl
 
 -- the block that is laid in is the picture's
 unit_back : (size : Size) (prev now cur : Picture) (before : List Moving) (unit : MoveLeaf) (component : ℕ) → component < 3 → IsPicture now → IsCopied prev now before unit unit.kind
-    → ((qx qy : ℕ) → is_available size unit.x unit.y qx qy ≡ true → cur component qx qy ≡ now component qx qy)
+    → ((qx qy : ℕ) → is_available size unit.block.x unit.block.y qx qy ≡ true → cur component qx qy ≡ now component qx qy)
     → block_of size prev cur (leaf_as_coded unit) (unit_content (source_of size now) before unit unit.kind) component ≡ samples_in now (leaf_as_coded unit) component
 unfolding block_of Old.block_of
 unit_back size prev now cur before unit component small is copied near = go unit.kind refl copied
@@ -66,16 +66,16 @@ block_agrees now cur before leaf blocks back agree = record { each = λ componen
     at : (component x y : ℕ) → component < 3 → is_covered (before ++ leaf ∷ []) x y ≡ true → with_block cur leaf blocks component x y ≡ now component x y
     at component x y small covered = go (covers x y leaf) refl
       where
-        go : (t : Bool) → covers x y leaf ≡ t → cond t (get_or (blocks component) ((y - leaf.y) * leaf_side leaf + (x - leaf.x)) 0) (cur component x y) ≡ now component x y
-        go true e = ap (λ (l : List ℕ). get_or l ((y - leaf.y) * leaf_side leaf + (x - leaf.x)) 0) (back component small) ∙ at_samples now leaf component x y e
+        go : (t : Bool) → covers x y leaf ≡ t → cond t (get_or (blocks component) ((y - leaf.block.y) * leaf_side leaf + (x - leaf.block.x)) 0) (cur component x y) ≡ now component x y
+        go true e = ap (λ (l : List ℕ). get_or l ((y - leaf.block.y) * leaf_side leaf + (x - leaf.block.x)) 0) (back component small) ∙ at_samples now leaf component x y e
         go false e = agree.each component x y small (earlier x y (covers x y leaf) e (sym (list_any-append (covers x y) before (leaf ∷ [])) ∙ covered))
 
 unit_rebuilt : (size : Size) (prev now cur : Picture) (before : List Moving) (placed_before : List Leaf) (unit : MoveLeaf) → IsPicture now → IsCopied prev now before unit unit.kind → IsPlaced size placed_before (leaf_as_coded unit)
     → Agree cur now placed_before
-    → Agree (with_unit size prev cur (record { x = unit.x; y = unit.y; log2 = unit.log2; content = unit_content (source_of size now) before unit unit.kind })) now (placed_before ++ leaf_as_coded unit ∷ [])
+    → Agree (with_unit size prev cur (record { block = unit.block; content = unit_content (source_of size now) before unit unit.kind })) now (placed_before ++ leaf_as_coded unit ∷ [])
 unit_rebuilt size prev now cur before placed_before unit is copied placed agree =
     subst
-    (λ (k : Kind). Agree (with_block cur (leaf_with unit.x unit.y unit.log2 k) (block_of size prev cur (leaf_with unit.x unit.y unit.log2 k) (unit_content (source_of size now) before unit unit.kind))) now (placed_before ++ leaf_as_coded unit ∷ []))
+    (λ (k : Kind). Agree (with_block cur (leaf_with unit.block k) (block_of size prev cur (leaf_with unit.block k) (unit_content (source_of size now) before unit unit.kind))) now (placed_before ++ leaf_as_coded unit ∷ []))
     (sym (kind_read now size before unit unit.kind))
     (block_agrees now cur placed_before (leaf_as_coded unit) _
     (λ component small. unit_back size prev now cur before unit component small is copied
@@ -88,7 +88,7 @@ units_rebuilt : (size : Size) (prev now cur : Picture) (before : List Moving) (p
     → Agree (with_units size prev cur (reads_after (source_of size now) before units)) now (placed_before ++ leaves_from units)
 units_rebuilt size prev now cur before placed_before [] is copied placed agree = subst (λ (l : List Leaf). Agree cur now l) (sym (append-nil placed_before)) agree
 units_rebuilt size prev now cur before placed_before (unit ∷ units) is copied placed agree =
-    let read : ReadUnit = record { x = unit.x; y = unit.y; log2 = unit.log2; content = unit_content (source_of size now) before unit unit.kind } in
+    let read : ReadUnit = record { block = unit.block; content = unit_content (source_of size now) before unit unit.kind } in
     let next : Picture = with_unit size prev cur read in
     let after : List Moving = before ++ as_coded before unit ∷ [] in
     subst (λ (l : List Leaf). Agree (with_units size prev next (reads_after (source_of size now) after units)) now l) (append_assoc placed_before (leaf_as_coded unit ∷ []) (leaves_from units))

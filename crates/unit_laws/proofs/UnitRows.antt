@@ -12,11 +12,11 @@ use Rattle.h265_model.specs.Bits.{bits, ◌>>=◌ as and_then}
 use Rattle.h265_model.specs.Engine.{Engine, start, is_done, Reader, ◌>>=◌, give, Reads, ReadsWith}
 use Rattle.h265_model.specs.Contexts.{row_start, start as first_contexts, AreContexts}
 use Rattle.h265_model.specs.Code.{code, contexts_after, IsWellFormed}
-use Rattle.h265_model.specs.Tree.{Source, IsSource, expect, contexts_read, is_last}
+use Rattle.h265_model.specs.Tree.{moving, Source, IsSource, expect, contexts_read, is_last}
 use Rattle.h265_model.specs.Motion.{Moving, coded_after}
 use Rattle.h265_model.specs.Tree.{ReadUnit, ReadCtu, units_of, units_after, moving_of, ctu_read, ctus_read, ends_row}
-use Rattle.h265_model.specs.Slice.{slice_row_read, segment_row_read, handed_on, row_of_bytes}
-use Rattle.h265_model.specs.Walks.{UnitItems, move_unit, ctu_items_of, coded_first, ctu_with_end, ctus_items_of, row_items_of, segment_items_of, contexts_of}
+use Rattle.h265_model.specs.Slice.{contexts_at, slice_row_read, segment_row_read, handed_on, row_of_bytes}
+use Rattle.h265_model.specs.Tree.{UnitItems, move_unit, ctu_items, coded_first, ctu_with_flag, ctus_items, items_of_row, items_of_segment}
 use Rattle.h265_laws.specs.Laws.{IsReadBack}
 use Rattle.h265_laws.proofs.Parts.{law, start_contexts}
 use Rattle.h265_laws.proofs.RowLaw.{with_any, with_bind, with_expect, with_as, with_map, with_contexts, same_after_flag}
@@ -47,17 +47,17 @@ first_fit kind size units total (suc n) h are =
 -- the items of n coding tree units from this one on
 abbrev pub items_from : UnitItems → Size → (ℕ → Bool) → List (List MoveLeaf) → ℕ → ℕ → List Item
 items_from unit size ends units ctu zero = []
-items_from unit size ends units ctu (suc n) = ctu_with_end unit size ends units ctu ++ items_from unit size ends units (suc ctu) n
+items_from unit size ends units ctu (suc n) = ctu_with_flag (moving unit) size ends units ctu ++ items_from unit size ends units (suc ctu) n
 
 in_order : (unit : UnitItems) (size : Size) (ends : ℕ → Bool) (units : List (List MoveLeaf)) (base n first : ℕ)
-    → flat_map (λ i. ctu_with_end unit size ends units (base + i)) (range_with_len first n) ≡ items_from unit size ends units (base + first) n
+    → flat_map (λ i. ctu_with_flag (moving unit) size ends units (base + i)) (range_with_len first n) ≡ items_from unit size ends units (base + first) n
 in_order unit size ends units base zero first = refl
 in_order unit size ends units base (suc n) first =
     let e : base + (first + 1) ≡ suc (base + first) = omega arith in
-    ap (λ (l : List Item). ctu_with_end unit size ends units (base + first) ++ l)
+    ap (λ (l : List Item). ctu_with_flag (moving unit) size ends units (base + first) ++ l)
     (in_order unit size ends units base n (first + 1) ∙ ap (λ (k : ℕ). items_from unit size ends units k n) e)
 
-pub row_order : (unit : UnitItems) (size : Size) (ends : ℕ → Bool) (units : List (List MoveLeaf)) (row n : ℕ) → ctus_items_of unit size ends units row n ≡ items_from unit size ends units (row * ctus size.w) n
+pub row_order : (unit : UnitItems) (size : Size) (ends : ℕ → Bool) (units : List (List MoveLeaf)) (row n : ℕ) → ctus_items (moving unit) size ends units row n ≡ items_from unit size ends units (row * ctus size.w) n
 row_order unit size ends units row n =
     in_order unit size ends units (row * ctus size.w) n 0 ∙ ap (λ (k : ℕ). items_from unit size ends units k n) (add-zero (row * ctus size.w))
 
@@ -67,7 +67,7 @@ ctus_law kind size source units ends total ctu zero h are is = record { from = �
 ctus_law kind size source units ends total ctu (suc n) h are is =
     let before : List Moving = coded_first units ctu in
     let here : List MoveLeaf = get_or units ctu [] in
-    let own : List Item = ctu_items_of (move_unit kind source) size before here ctu in
+    let own : List Item = ctu_items (moving (move_unit kind source)) size before here ctu in
     let made : List ReadUnit → List ℕ → List ReadCtu → List ReadCtu = λ us c others. record { units = us; contexts = c } ∷ others in
     let rest : List Item = items_from (move_unit kind source) size ends units (suc ctu) n in
     let later : ReadsWith (ctus_read kind size ends n (suc ctu) (coded_first units (suc ctu))) rest (units_from kind size source units (suc ctu) n) =
@@ -88,22 +88,22 @@ ctus_law kind size source units ends total ctu (suc n) h are is =
 -- ---- the row
 
 ctus_row : (kind : SliceKind) (size : Size) (source : Source) (units : List (List MoveLeaf)) (ends : ℕ → Bool) (row total : ℕ) → row * ctus size.w + ctus size.w ≤ total → AreLawfulUnits kind size units total → IsSource source
-    → ReadsWith (ctus_read kind size ends (ctus size.w) (row * ctus size.w) (coded_first units (row * ctus size.w))) (ctus_items_of (move_unit kind source) size ends units row (ctus size.w))
+    → ReadsWith (ctus_read kind size ends (ctus size.w) (row * ctus size.w) (coded_first units (row * ctus size.w))) (ctus_items (moving (move_unit kind source)) size ends units row (ctus size.w))
     (units_from kind size source units (row * ctus size.w) (ctus size.w))
 ctus_row kind size source units ends row total h are is =
     with_as _ _ _ (units_from kind size source units (row * ctus size.w) (ctus size.w)) (sym (row_order (move_unit kind source) size ends units row (ctus size.w)))
     (ctus_law kind size source units ends total (row * ctus size.w) (ctus size.w) h are is)
 
 pub slice_row : (kind : SliceKind) (size : Size) (source : Source) (units : List (List MoveLeaf)) (row total : ℕ) → row * ctus size.w + ctus size.w ≤ total → AreLawfulUnits kind size units total → IsSource source
-    → ReadsWith (slice_row_read kind size row (coded_first units (row * ctus size.w))) (row_items_of (move_unit kind source) size units row) (units_from kind size source units (row * ctus size.w) (ctus size.w))
-unfolding slice_row_read row_items_of
+    → ReadsWith (slice_row_read kind size row (coded_first units (row * ctus size.w))) (items_of_row (moving (move_unit kind source)) size units row) (units_from kind size source units (row * ctus size.w) (ctus size.w))
+unfolding slice_row_read items_of_row
 slice_row kind size source units row total h are is = go (row + 1 == ctus size.h)
   where
     values : List ℕ → List ReadCtu
     values = units_from kind size source units (row * ctus size.w) (ctus size.w)
 
     front : List Item
-    front = ctus_items_of (move_unit kind source) size (is_last size) units row (ctus size.w)
+    front = ctus_items (moving (move_unit kind source)) size (is_last size) units row (ctus size.w)
 
     all : Reader (List ReadCtu)
     all = ctus_read kind size (is_last size) (ctus size.w) (row * ctus size.w) (coded_first units (row * ctus size.w))
@@ -117,8 +117,8 @@ slice_row kind size source units row total h are is = go (row + 1 == ctus size.h
         (λ c. with_expect true (give (values c)) [] (λ d. values c) (record { from = λ e left g. ap (λ (x : Engine). Some (values c, x)) g }))
 
 pub segment_row : (kind : SliceKind) (size : Size) (source : Source) (units : List (List MoveLeaf)) (row total : ℕ) → row * ctus size.w + ctus size.w ≤ total → AreLawfulUnits kind size units total → IsSource source
-    → ReadsWith (segment_row_read kind size row (coded_first units (row * ctus size.w))) (segment_items_of (move_unit kind source) size units row) (units_from kind size source units (row * ctus size.w) (ctus size.w))
-unfolding segment_row_read segment_items_of
+    → ReadsWith (segment_row_read kind size row (coded_first units (row * ctus size.w))) (items_of_segment (moving (move_unit kind source)) size units row) (units_from kind size source units (row * ctus size.w) (ctus size.w))
+unfolding segment_row_read items_of_segment
 segment_row kind size source units row total h are is = ctus_row kind size source units (ends_row size) row total h are is
 
 pub rows_are_read : EachUnitRowIsRead
@@ -142,49 +142,49 @@ row_is_read read list c values formed are r =
 
 -- ---- contexts
 
-pub contexts_are : (kind : SliceKind) (unit : UnitItems) (size : Size) (units : List (List MoveLeaf)) (row : ℕ) → AreContexts (contexts_of kind unit size units row)
-unfolding contexts_of row_start
+pub contexts_are : (kind : SliceKind) (unit : UnitItems) (size : Size) (units : List (List MoveLeaf)) (row : ℕ) → AreContexts (contexts_at kind (moving unit) size units row)
+unfolding contexts_at row_start
 contexts_are kind unit size units zero = start_is kind
 contexts_are kind unit size units (suc row) =
-    row_start_is kind (ctus size.w) (suc row) _ (after_is (ctus_items_of unit size (is_last size) units row 2) (contexts_of kind unit size units row) (contexts_are kind unit size units row))
+    row_start_is kind (ctus size.w) (suc row) _ (after_is (ctus_items (moving unit) size (is_last size) units row 2) (contexts_at kind (moving unit) size units row) (contexts_are kind unit size units row))
 
 -- what is read of a row
 abbrev pub row_values : SliceKind → Size → Source → List (List MoveLeaf) → ℕ → List ReadCtu
-row_values kind size source units row = units_from kind size source units (row * ctus size.w) (ctus size.w) (contexts_of kind (move_unit kind source) size units row)
+row_values kind size source units row = units_from kind size source units (row * ctus size.w) (ctus size.w) (contexts_at kind (moving (move_unit kind source)) size units row)
 
 handed_is : (kind : SliceKind) (size : Size) (source : Source) (units : List (List MoveLeaf)) (ctu w : ℕ) (c : List ℕ)
     → handed_on (units_from kind size source units ctu (suc (suc w)) c) ≡ contexts_after (items_from (move_unit kind source) size (is_last size) units ctu 2) c
 handed_is kind size source units ctu w c =
     let unit : UnitItems = move_unit kind source in
-    let a : List Item = ctu_items_of unit size (coded_first units ctu) (get_or units ctu []) ctu in
-    let b : List Item = ctu_items_of unit size (coded_first units (suc ctu)) (get_or units (suc ctu) []) (suc ctu) in
-    let second_items : List Item = ctu_with_end unit size (is_last size) units (suc ctu) in
+    let a : List Item = ctu_items (moving unit) size (coded_first units ctu) (get_or units ctu []) ctu in
+    let b : List Item = ctu_items (moving unit) size (coded_first units (suc ctu)) (get_or units (suc ctu) []) (suc ctu) in
+    let second_items : List Item = ctu_with_flag (moving unit) size (is_last size) units (suc ctu) in
     let first : contexts_after (a ++ terminate_bin (is_last size ctu) ∷ []) c ≡ contexts_after a c = after_both a _ c ∙ same_after_flag (is_last size ctu) (contexts_after a c) in
     let second : (d : List ℕ) → contexts_after (b ++ terminate_bin (is_last size (suc ctu)) ∷ []) d ≡ contexts_after b d = λ d. after_both b _ d ∙ same_after_flag (is_last size (suc ctu)) (contexts_after b d) in
-    sym (after_both (ctu_with_end unit size (is_last size) units ctu) (second_items ++ []) c
+    sym (after_both (ctu_with_flag (moving unit) size (is_last size) units ctu) (second_items ++ []) c
     ∙ (ap (λ (d : List ℕ). contexts_after (second_items ++ []) d) first
     ∙ (ap (λ (l : List Item). contexts_after l (contexts_after a c)) (append-nil second_items)
     ∙ second (contexts_after a c))))
 
 -- the next row starts from the contexts that it was coded from
 pub next_start : (kind : SliceKind) (size : Size) (source : Source) (units : List (List MoveLeaf)) (row : ℕ)
-    → row_start kind (ctus size.w) (suc row) (handed_on (row_values kind size source units row)) ≡ contexts_of kind (move_unit kind source) size units (suc row)
-unfolding row_start contexts_of
+    → row_start kind (ctus size.w) (suc row) (handed_on (row_values kind size source units row)) ≡ contexts_at kind (moving (move_unit kind source)) size units (suc row)
+unfolding row_start contexts_at
 next_start kind size source units row = go (nat_le 2 (ctus size.w)) refl
   where
     unit : UnitItems
     unit = move_unit kind source
 
     c : List ℕ
-    c = contexts_of kind unit size units row
+    c = contexts_at kind (moving unit) size units row
 
-    wide : (w : ℕ) → 2 ≤ w → handed_on (units_from kind size source units (row * ctus size.w) w c) ≡ contexts_after (ctus_items_of unit size (is_last size) units row 2) c
+    wide : (w : ℕ) → 2 ≤ w → handed_on (units_from kind size source units (row * ctus size.w) w c) ≡ contexts_after (ctus_items (moving unit) size (is_last size) units row 2) c
     wide zero h = absurd (omega arith)
     wide (suc zero) h = absurd (omega arith)
     wide (suc (suc w)) h = handed_is kind size source units (row * ctus size.w) w c ∙ ap (λ (l : List Item). contexts_after l c) (sym (row_order unit size (is_last size) units row 2))
 
     go : (b : Bool) → nat_le 2 (ctus size.w) ≡ b
-        → cond b (handed_on (row_values kind size source units row)) (first_contexts kind) ≡ cond b (contexts_after (ctus_items_of unit size (is_last size) units row 2) c) (first_contexts kind)
+        → cond b (handed_on (row_values kind size source units row)) (first_contexts kind) ≡ cond b (contexts_after (ctus_items (moving unit) size (is_last size) units row 2) c) (first_contexts kind)
     go true e = wide (ctus size.w) (leb-true _ _ e)
     go false e = refl
 
@@ -203,7 +203,7 @@ values_read kind size source units ctu zero c = append-nil (read_first source un
 values_read kind size source units ctu (suc n) c =
     let before : List Moving = coded_first units ctu in
     let here : List MoveLeaf = get_or units ctu [] in
-    let d : List ℕ = contexts_after (ctu_items_of (move_unit kind source) size before here ctu) c in
+    let d : List ℕ = contexts_after (ctu_items (moving (move_unit kind source)) size before here ctu) c in
     let others : List ReadUnit = units_of (units_from kind size source units (suc ctu) n d) in
     let e : suc ctu + n ≡ ctu + suc n = omega arith in
     let more : read_first source units (suc ctu) ≡ read_first source units ctu ++ reads_after source before here =
@@ -215,7 +215,7 @@ values_read kind size source units ctu (suc n) c =
 pub row_read_on : (kind : SliceKind) (size : Size) (source : Source) (units : List (List MoveLeaf)) (row : ℕ)
     → read_first source units (row * ctus size.w) ++ units_of (row_values kind size source units row) ≡ read_first source units ((row + 1) * ctus size.w)
 row_read_on kind size source units row =
-    values_read kind size source units (row * ctus size.w) (ctus size.w) (contexts_of kind (move_unit kind source) size units row)
+    values_read kind size source units (row * ctus size.w) (ctus size.w) (contexts_at kind (moving (move_unit kind source)) size units row)
     ∙ (let e : row * ctus size.w + ctus size.w ≡ (row + 1) * ctus size.w = omega arith in ap (read_first source units) e)
 
 pub coded_are_fit : EachCodedUnitIsFit

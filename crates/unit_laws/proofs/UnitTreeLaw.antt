@@ -9,14 +9,14 @@ use Rattle.h265_model.specs.declared.leaf.SliceKind.TheVariants.{I, P}
 use Rattle.h265_model.specs.declared.moves.MoveLeaf.{MoveLeaf}
 use Rattle.h265_model.specs.declared.moves.MoveKind.{MoveKind}
 use Rattle.h265_model.specs.declared.moves.MoveKind.TheVariants as moves
-use Rattle.h265_model.specs.Plain.{Size, context_bin, ctu_x, ctu_y}
+use Rattle.h265_model.specs.Plain.{block_at, Size, context_bin, ctu_x, ctu_y}
 use Rattle.h265_model.specs.Engine.{bin, Reader, ◌>>=◌, give, Reads}
 use Rattle.h265_model.specs.Residual.{IsSide, eight}
 use Rattle.h265_model.specs.Predict.{is_inside}
-use Rattle.h265_model.specs.Tree.{Source, IsSource, IsMode, AreModes, split_context, is_whole, coding_unit_items}
+use Rattle.h265_model.specs.Tree.{moving, unit_block, Source, IsSource, IsMode, AreModes, split_context, is_whole, coding_unit_items}
 use Rattle.h265_model.specs.Motion.{Moving, leaves, as_coded, coded_after, leaf_as_coded, kind_as_coded, kind_vector, merge}
 use Rattle.h265_model.specs.Tree.{ReadUnit, moving_of, units_after, coding_unit_read, quarters_read, tree_read, ctu_read}
-use Rattle.h265_model.specs.Walks.{UnitWalk, then_walk, walk_and, quarters_of, nothing_of, one_of, is_next_leaf, walk_of, ctu_items_of, moved_unit, unit_of_kind, move_unit}
+use Rattle.h265_model.specs.Tree.{Walk, walk_on, and_walk, quarters, no_walk, coding_unit_walk, is_next, tree_walk, ctu_items, moved_unit, unit_of_kind, move_unit}
 use Rattle.h265_model.proofs.ListParts.{all_append}
 use Rattle.h265_laws.proofs.Parts.{BeginsWithBin}
 use Rattle.h265_laws.proofs.Reading.{reads_as, reads_bin, reads_bind, reads_map, reads_give}
@@ -34,10 +34,10 @@ coded-append before (u ∷ a) b = coded-append (before ++ as_coded before u ∷ 
 pub reads-append : (source : Source) (before : List Moving) (a b : List MoveLeaf) → reads_after source before (a ++ b) ≡ reads_after source before a ++ reads_after source (coded_after before a) b
 reads-append source before [] b = refl
 reads-append source before (u ∷ a) b =
-    ap (λ (l : List ReadUnit). record { x = u.x; y = u.y; log2 = u.log2; content = unit_content source before u u.kind } ∷ l) (reads-append source (before ++ as_coded before u ∷ []) a b)
+    ap (λ (l : List ReadUnit). record { block = u.block; content = unit_content source before u u.kind } ∷ l) (reads-append source (before ++ as_coded before u ∷ []) a b)
 
 moving_back : (source : Source) (before : List Moving) (u : MoveLeaf) (k : MoveKind)
-    → moving_of (record { x = u.x; y = u.y; log2 = u.log2; content = unit_content source before u k }) ≡ as_coded before (record { x = u.x; y = u.y; log2 = u.log2; kind = k })
+    → moving_of (record { block = u.block; content = unit_content source before u k }) ≡ as_coded before (record { block = u.block; kind = k })
 moving_back source before u moves.Skip = refl
 moving_back source before u (moves.Move v) = refl
 moving_back source before u moves.Pcm = refl
@@ -55,20 +55,20 @@ pub record AreFit (units : List Moving) : Type 0 where
   pub modes : AreModes (leaves units)
   pub short : AreShort units
 
-fit_one : (kind : SliceKind) (size : Size) (before : List Moving) (u : MoveLeaf) → IsShort (merge before u.x u.y u.log2) → CanStand kind size before u.x u.y u.log2 u.kind → AreFit before → AreFit (before ++ as_coded before u ∷ [])
+fit_one : (kind : SliceKind) (size : Size) (before : List Moving) (u : MoveLeaf) → IsShort (merge before u.block) → CanStand kind size before u.block u.kind → AreFit before → AreFit (before ++ as_coded before u ∷ [])
 fit_one kind size before u hm c f = record {
   modes = subst AreModes (sym (leaves-append before (as_coded before u ∷ []))) (all_append (λ leaf. IsMode leaf.kind) (leaves before) (leaf_as_coded u ∷ []) f.modes (mode kind u.kind c, tt));
   short = all_append (λ unit. IfSome unit.vector IsShort) before (as_coded before u ∷ []) f.short (vector kind u.kind c, tt);
 }
   where
-    mode : (s : SliceKind) (k : MoveKind) → CanStand s size before u.x u.y u.log2 k → IsMode (kind_as_coded k)
+    mode : (s : SliceKind) (k : MoveKind) → CanStand s size before u.block k → IsMode (kind_as_coded k)
     mode s moves.Skip h = tt
     mode s (moves.Move v) h = tt
     mode s moves.Pcm h = tt
     mode I (moves.Intra m) h = h
     mode P (moves.Intra m) h = h
 
-    vector : (s : SliceKind) (k : MoveKind) → CanStand s size before u.x u.y u.log2 k → IfSome (kind_vector (merge before u.x u.y u.log2) k) IsShort
+    vector : (s : SliceKind) (k : MoveKind) → CanStand s size before u.block k → IfSome (kind_vector (merge before u.block) k) IsShort
     vector I moves.Skip h = elim h [ ]
     vector P moves.Skip h = hm
     vector I (moves.Move v) h = elim h [ ]
@@ -79,7 +79,7 @@ fit_one kind size before u hm c f = record {
 pub fit_all : (kind : SliceKind) (size : Size) (before : List Moving) (us : List MoveLeaf) → CanStandAll kind size before us → AreFit before → AreFit (coded_after before us)
 fit_all kind size before [] c f = f
 fit_all kind size before (u ∷ us) c f =
-    fit_all kind size (before ++ as_coded before u ∷ []) us c.1 (fit_one kind size before u (merge_short before u.x u.y u.log2 f.short) c.0 f)
+    fit_all kind size (before ++ as_coded before u ∷ []) us c.1 (fit_one kind size before u (merge_short before u.block.x u.block.y u.block.log2 f.short) c.0 f)
 
 stand-front : (kind : SliceKind) (size : Size) (before : List Moving) (a b : List MoveLeaf) → CanStandAll kind size before (a ++ b) → CanStandAll kind size before a
 stand-front kind size before [] b c = tt
@@ -91,18 +91,18 @@ stand-back kind size before (u ∷ a) b c = stand-back kind size (before ++ as_c
 
 -- ---- the walk takes these units, and the reader reads what it writes
 
-pub record Takes (walk : List Moving → List MoveLeaf → UnitWalk) (read : List Moving → Reader (List ReadUnit)) (source : Source) (before : List Moving) (units : List MoveLeaf) : Type 0 where
+pub record Takes (walk : List Moving → List MoveLeaf → Walk MoveLeaf Moving) (read : List Moving → Reader (List ReadUnit)) (source : Source) (before : List Moving) (units : List MoveLeaf) : Type 0 where
   pub list : List Item
   pub walks : (rest : List MoveLeaf) → walk before (units ++ rest) ≡ record { list = list; before = coded_after before units; left = rest }
   pub reads : Reads (read before) list (reads_after source before units)
   pub begins : BeginsWithBin list
 
-takes_quarters : (go : ℕ → ℕ → List Moving → List MoveLeaf → UnitWalk) (read : ℕ → ℕ → List Moving → Reader (List ReadUnit)) (source : Source) (half x y : ℕ) (before : List Moving) (a b c d : List MoveLeaf)
+takes_quarters : (go : ℕ → ℕ → List Moving → List MoveLeaf → Walk MoveLeaf Moving) (read : ℕ → ℕ → List Moving → Reader (List ReadUnit)) (source : Source) (half x y : ℕ) (before : List Moving) (a b c d : List MoveLeaf)
     → Takes (go x y) (read x y) source before a
     → Takes (go (x + half) y) (read (x + half) y) source (coded_after before a) b
     → Takes (go x (y + half)) (read x (y + half)) source (coded_after (coded_after before a) b) c
     → Takes (go (x + half) (y + half)) (read (x + half) (y + half)) source (coded_after (coded_after (coded_after before a) b) c) d
-    → Takes (quarters_of go half x y) (quarters_read read half x y) source before (((a ++ b) ++ c) ++ d)
+    → Takes (quarters go half x y) (quarters_read read half x y) source before (((a ++ b) ++ c) ++ d)
 takes_quarters go read source half x y before a b c d ta tb tc td =
     let m1 : List Moving = coded_after before a in
     let m2 : List Moving = coded_after m1 b in
@@ -124,14 +124,14 @@ takes_quarters go read source half x y before a b c d ta tb tc td =
       walks = λ rest.
           let w1 : go x y before ((((a ++ b) ++ c) ++ d) ++ rest) ≡ record { list = ta.list; before = m1; left = b ++ (c ++ (d ++ rest)) } =
           ap (go x y before) (append_assoc ((a ++ b) ++ c) d rest ∙ (append_assoc (a ++ b) c (d ++ rest) ∙ append_assoc a b (c ++ (d ++ rest)))) ∙ ta.walks (b ++ (c ++ (d ++ rest))) in
-          let second : UnitWalk → UnitWalk = λ w. walk_and w (go (x + half) y) in
-          let third : UnitWalk → UnitWalk = λ w. walk_and w (go x (y + half)) in
-          let fourth : UnitWalk → UnitWalk = λ w. walk_and w (go (x + half) (y + half)) in
+          let second : Walk MoveLeaf Moving → Walk MoveLeaf Moving = λ w. and_walk w (go (x + half) y) in
+          let third : Walk MoveLeaf Moving → Walk MoveLeaf Moving = λ w. and_walk w (go x (y + half)) in
+          let fourth : Walk MoveLeaf Moving → Walk MoveLeaf Moving = λ w. and_walk w (go (x + half) (y + half)) in
           let end : coded_after m3 d ≡ coded_after before (((a ++ b) ++ c) ++ d) = ap (λ (m : List Moving). coded_after m d) (sym c3) ∙ sym (coded-append before ((a ++ b) ++ c) d) in
-          ap (λ (w : UnitWalk). fourth (third (second w))) w1
-          ∙ (ap (λ (w : UnitWalk). fourth (third (then_walk ta.list w))) (tb.walks (c ++ (d ++ rest)))
-          ∙ (ap (λ (w : UnitWalk). fourth (then_walk (ta.list ++ tb.list) w)) (tc.walks (d ++ rest))
-          ∙ (ap (λ (w : UnitWalk). then_walk ((ta.list ++ tb.list) ++ tc.list) w) (td.walks rest)
+          ap (λ (w : Walk MoveLeaf Moving). fourth (third (second w))) w1
+          ∙ (ap (λ (w : Walk MoveLeaf Moving). fourth (third (walk_on ta.list w))) (tb.walks (c ++ (d ++ rest)))
+          ∙ (ap (λ (w : Walk MoveLeaf Moving). fourth (walk_on (ta.list ++ tb.list) w)) (tc.walks (d ++ rest))
+          ∙ (ap (λ (w : Walk MoveLeaf Moving). walk_on ((ta.list ++ tb.list) ++ tc.list) w) (td.walks rest)
           ∙ ap (λ (m : List Moving). record { list = ((ta.list ++ tb.list) ++ tc.list) ++ td.list; before = m; left = rest }) end)));
       reads =
           let all : List ReadUnit = ((ra ++ rb) ++ rc) ++ rd in
@@ -163,13 +163,13 @@ record HasFirst (log2 : ℕ) (units : List MoveLeaf) : Type 0 where
   first : MoveLeaf
   more : List MoveLeaf
   is : units ≡ first ∷ more
-  small : first.log2 ≤ log2
+  small : first.block.log2 ≤ log2
 
 tree_first : (size : Size) (depth x y : ℕ) (units : List MoveLeaf) → IsUnitTree size depth x y units → is_inside size x y ≡ true → HasFirst (3 + depth) units
 tree_first size zero x y units t inside = go (is_inside size x y) inside t
   where
-    go : (b : Bool) → b ≡ true → MatchBool b (IsOneUnit x y 3 units) (units ≡ []) → HasFirst 3 units
-    go true e u = record { first = record { x = x; y = y; log2 = 3; kind = u.kind }; more = []; is = u.one; small = omega arith }
+    go : (b : Bool) → b ≡ true → MatchBool b (IsOneUnit (block_at x y 3) units) (units ≡ []) → HasFirst 3 units
+    go true e u = record { first = record { block = block_at x y 3; kind = u.kind }; more = []; is = u.one; small = omega arith }
     go false e u = absurd (cc)
 tree_first size (suc depth) x y units t inside = go (is_inside size x y) inside (is_whole size (2 * half) x y) t (λ us q. tree_first size depth x y us q inside)
   where
@@ -185,11 +185,11 @@ tree_first size (suc depth) x y units t inside = go (is_inside size x y) inside 
           first = h.first;
           more = ((h.more ++ q.second) ++ q.third) ++ q.fourth;
           is = q.together ∙ ap (λ (l : List MoveLeaf). ((l ++ q.second) ++ q.third) ++ q.fourth) h.is;
-          small = let s : h.first.log2 ≤ 3 + depth = h.small in omega arith;
+          small = let s : h.first.block.log2 ≤ 3 + depth = h.small in omega arith;
         }
 
-    go : (a : Bool) → a ≡ true → (b : Bool) → MatchBool a (MatchBool b (IsOneUnit x y (4 + depth) units ⊎ AreFourParts (IsUnitTree size depth) half x y units) (AreFourParts (IsUnitTree size depth) half x y units)) (units ≡ []) → First → HasFirst (3 + suc depth) units
-    go true e true u f = ⊎_elim (λ (v : IsOneUnit x y (4 + depth) units). record { first = record { x = x; y = y; log2 = 4 + depth; kind = v.kind }; more = []; is = v.one; small = omega arith }) (λ q. four q f) u
+    go : (a : Bool) → a ≡ true → (b : Bool) → MatchBool a (MatchBool b (IsOneUnit (block_at x y (4 + depth)) units ⊎ AreFourParts (IsUnitTree size depth) half x y units) (AreFourParts (IsUnitTree size depth) half x y units)) (units ≡ []) → First → HasFirst (3 + suc depth) units
+    go true e true u f = ⊎_elim (λ (v : IsOneUnit (block_at x y (4 + depth)) units). record { first = record { block = block_at x y (4 + depth); kind = v.kind }; more = []; is = v.one; small = omega arith }) (λ q. four q f) u
     go true e false q f = four q f
     go false e b u f = absurd (cc)
 
@@ -203,28 +203,28 @@ unit_begins kind source before u = go u.kind
     go moves.Pcm = tt
     go (moves.Intra mode) = tt
 
-takes_unit : (kind : SliceKind) (size : Size) (source : Source) (x y log2 : ℕ) (before : List Moving) (units : List MoveLeaf) (u : IsOneUnit x y log2 units) → IsSide log2 → IsSource source → AreFit before → CanStandAll kind size before units
-    → Takes (one_of (move_unit kind source)) (λ b. coding_unit_read kind size b x y log2) source before units
+takes_unit : (kind : SliceKind) (size : Size) (source : Source) (x y log2 : ℕ) (before : List Moving) (units : List MoveLeaf) (u : IsOneUnit (block_at x y log2) units) → IsSide log2 → IsSource source → AreFit before → CanStandAll kind size before units
+    → Takes (coding_unit_walk (moving (move_unit kind source))) (λ b. coding_unit_read kind size b (block_at x y log2)) source before units
 takes_unit kind size source x y log2 before units u side is fit stand =
-    let unit : MoveLeaf = record { x = x; y = y; log2 = log2; kind = u.kind } in
-    let can : CanStand kind size before x y log2 u.kind = (subst (CanStandAll kind size before) u.one stand).0 in
+    let unit : MoveLeaf = record { block = block_at x y log2; kind = u.kind } in
+    let can : CanStand kind size before (block_at x y log2) u.kind = (subst (CanStandAll kind size before) u.one stand).0 in
     record {
       list = move_unit kind source before unit;
-      walks = λ rest. ap (λ (l : List MoveLeaf). one_of (move_unit kind source) before (l ++ rest)) u.one ∙ ap (λ (l : List MoveLeaf). record { list = move_unit kind source before unit; before = coded_after before l; left = rest }) (sym u.one);
-      reads = reads_as (coding_unit_read kind size before x y log2) _ _ _ _ refl (ap (reads_after source before) (sym u.one)) (units_are_read kind size source before x y log2 u.kind side is fit.modes fit.short can);
+      walks = λ rest. ap (λ (l : List MoveLeaf). coding_unit_walk (moving (move_unit kind source)) before (l ++ rest)) u.one ∙ ap (λ (l : List MoveLeaf). record { list = move_unit kind source before unit; before = coded_after before l; left = rest }) (sym u.one);
+      reads = reads_as (coding_unit_read kind size before (block_at x y log2)) _ _ _ _ refl (ap (reads_after source before) (sym u.one)) (units_are_read kind size source before x y log2 u.kind side is fit.modes fit.short can);
       begins = unit_begins kind source before unit;
     }
 
-takes_none : (read : List Moving → Reader (List ReadUnit)) (source : Source) (before : List Moving) (units : List MoveLeaf) → units ≡ [] → read before ≡ give [] → Takes nothing_of read source before units
+takes_none : (read : List Moving → Reader (List ReadUnit)) (source : Source) (before : List Moving) (units : List MoveLeaf) → units ≡ [] → read before ≡ give [] → Takes no_walk read source before units
 takes_none read source before units none gives = record {
   list = [];
-  walks = λ rest. ap (λ (l : List MoveLeaf). nothing_of before (l ++ rest)) none ∙ ap (λ (l : List MoveLeaf). record { list = []; before = coded_after before l; left = rest }) (sym none);
+  walks = λ rest. ap (λ (l : List MoveLeaf). no_walk before (l ++ rest)) none ∙ ap (λ (l : List MoveLeaf). record { list = []; before = coded_after before l; left = rest }) (sym none);
   reads = subst (λ (m : Reader (List ReadUnit)). Reads m [] (reads_after source before units)) (sym gives) (reads_as (give []) [] [] [] _ refl (ap (reads_after source before) (sym none)) (reads_give []));
   begins = tt;
 }
 
 -- how a walk and a reader may be written otherwise
-takes_as : (walk walk' : List Moving → List MoveLeaf → UnitWalk) (read read' : List Moving → Reader (List ReadUnit)) (source : Source) (before : List Moving) (units : List MoveLeaf)
+takes_as : (walk walk' : List Moving → List MoveLeaf → Walk MoveLeaf Moving) (read read' : List Moving → Reader (List ReadUnit)) (source : Source) (before : List Moving) (units : List MoveLeaf)
     → ((rest : List MoveLeaf) → walk' before (units ++ rest) ≡ walk before (units ++ rest)) → read' before ≡ read before
     → Takes walk read source before units → Takes walk' read' source before units
 takes_as walk walk' read read' source before units same_walk same_read t = record {
@@ -235,25 +235,25 @@ takes_as walk walk' read read' source before units same_walk same_read t = recor
 }
 
 -- a flag in front
-takes_flag : (walk : List Moving → List MoveLeaf → UnitWalk) (read other : List Moving → Reader (List ReadUnit)) (source : Source) (before : List Moving) (units : List MoveLeaf) (context : ℕ) (value : Bool)
+takes_flag : (walk : List Moving → List MoveLeaf → Walk MoveLeaf Moving) (read other : List Moving → Reader (List ReadUnit)) (source : Source) (before : List Moving) (units : List MoveLeaf) (context : ℕ) (value : Bool)
     → Takes walk (λ b. cond value (read b) (other b)) source before units
-    → Takes (λ b left. then_walk (context_bin value context ∷ []) (walk b left)) (λ b. bin (Context context) >>= λ flag. cond flag (read b) (other b)) source before units
+    → Takes (λ b left. walk_on (context_bin value context ∷ []) (walk b left)) (λ b. bin (Context context) >>= λ flag. cond flag (read b) (other b)) source before units
 takes_flag walk read other source before units context value t = record {
   list = context_bin value context ∷ t.list;
-  walks = λ rest. ap (then_walk (context_bin value context ∷ [])) (t.walks rest);
+  walks = λ rest. ap (walk_on (context_bin value context ∷ [])) (t.walks rest);
   reads = reads_bin (Context context) value (λ flag. cond flag (read before) (other before)) t.list _ t.reads;
   begins = tt;
 }
 
 pub tree_is_read : (kind : SliceKind) (size : Size) (source : Source) (depth x y : ℕ) (before : List Moving) (units : List MoveLeaf) → depth < 3 → IsSource source
     → IsUnitTree size depth x y units → AreFit before → CanStandAll kind size before units
-    → Takes (walk_of (move_unit kind source) size depth x y) (tree_read kind size depth x y) source before units
+    → Takes (tree_walk (moving (move_unit kind source)) size depth x y) (tree_read kind size depth x y) source before units
 tree_is_read kind size source zero x y before units small is t fit stand = go (is_inside size x y) refl t
   where
-    go : (b : Bool) → is_inside size x y ≡ b → MatchBool b (IsOneUnit x y 3 units) (units ≡ []) → Takes (walk_of (move_unit kind source) size zero x y) (tree_read kind size zero x y) source before units
-    go true e u = takes_as (one_of (move_unit kind source)) (walk_of (move_unit kind source) size zero x y) (λ b. coding_unit_read kind size b x y 3) (tree_read kind size zero x y) source before units
+    go : (b : Bool) → is_inside size x y ≡ b → MatchBool b (IsOneUnit (block_at x y 3) units) (units ≡ []) → Takes (tree_walk (moving (move_unit kind source)) size zero x y) (tree_read kind size zero x y) source before units
+    go true e u = takes_as (coding_unit_walk (moving (move_unit kind source))) (tree_walk (moving (move_unit kind source)) size zero x y) (λ b. coding_unit_read kind size b (block_at x y 3)) (tree_read kind size zero x y) source before units
         (λ rest. cond-true (is_inside size x y) _ _ e) (cond-true (is_inside size x y) _ _ e) (takes_unit kind size source x y 3 before units u eight is fit stand)
-    go false e none = takes_as nothing_of (walk_of (move_unit kind source) size zero x y) (λ b. give []) (tree_read kind size zero x y) source before units
+    go false e none = takes_as no_walk (tree_walk (moving (move_unit kind source)) size zero x y) (λ b. give []) (tree_read kind size zero x y) source before units
         (λ rest. cond-false (is_inside size x y) _ _ e) (cond-false (is_inside size x y) _ _ e) (takes_none (λ b. give []) source before units none refl)
 tree_is_read kind size source (suc depth) x y before units small is t fit stand =
     go (is_inside size x y) refl (is_whole size (2 * half) x y) refl t (λ px py b us. tree_is_read kind size source depth px py b us (omega arith) is)
@@ -262,13 +262,13 @@ tree_is_read kind size source (suc depth) x y before units small is t fit stand 
     half = 2 ^ (3 + depth)
 
     Lower : Type 0
-    Lower = (px py : ℕ) (b : List Moving) (us : List MoveLeaf) → IsUnitTree size depth px py us → AreFit b → CanStandAll kind size b us → Takes (walk_of (move_unit kind source) size depth px py) (tree_read kind size depth px py) source b us
+    Lower = (px py : ℕ) (b : List Moving) (us : List MoveLeaf) → IsUnitTree size depth px py us → AreFit b → CanStandAll kind size b us → Takes (tree_walk (moving (move_unit kind source)) size depth px py) (tree_read kind size depth px py) source b us
 
     flag : ℕ
-    flag = split_context (leaves before) x y (4 + depth)
+    flag = split_context (leaves before) (block_at x y (4 + depth))
 
-    split_walk : List Moving → List MoveLeaf → UnitWalk
-    split_walk = quarters_of (walk_of (move_unit kind source) size depth) half x y
+    split_walk : List Moving → List MoveLeaf → Walk MoveLeaf Moving
+    split_walk = quarters (tree_walk (moving (move_unit kind source)) size depth) half x y
 
     split_read : List Moving → Reader (List ReadUnit)
     split_read = quarters_read (tree_read kind size depth) half x y
@@ -291,55 +291,55 @@ tree_is_read kind size source (suc depth) x y before units small is t fit stand 
         let f2 : AreFit m2 = fit_all kind size m1 q.second c2 f1 in
         let f3 : AreFit m3 = fit_all kind size m2 q.third c3 f2 in
         subst (λ (l : List MoveLeaf). Takes split_walk split_read source before l) (sym q.together)
-        (takes_quarters (walk_of (move_unit kind source) size depth) (tree_read kind size depth) source half x y before q.first q.second q.third q.fourth
+        (takes_quarters (tree_walk (moving (move_unit kind source)) size depth) (tree_read kind size depth) source half x y before q.first q.second q.third q.fourth
         (lower x y before q.first q.top_left fit c1) (lower (x + half) y m1 q.second q.top_right f1 c2) (lower x (y + half) m2 q.third q.bottom_left f2 c3) (lower (x + half) (y + half) m3 q.fourth q.bottom_right f3 c4))
 
     go : (a : Bool) → is_inside size x y ≡ a → (b : Bool) → is_whole size (2 * half) x y ≡ b
-        → MatchBool a (MatchBool b (IsOneUnit x y (4 + depth) units ⊎ AreFourParts (IsUnitTree size depth) half x y units) (AreFourParts (IsUnitTree size depth) half x y units)) (units ≡ [])
-        → Lower → Takes (walk_of (move_unit kind source) size (suc depth) x y) (tree_read kind size (suc depth) x y) source before units
-    go false e b f none lower = takes_as nothing_of _ (λ b'. give []) _ source before units
+        → MatchBool a (MatchBool b (IsOneUnit (block_at x y (4 + depth)) units ⊎ AreFourParts (IsUnitTree size depth) half x y units) (AreFourParts (IsUnitTree size depth) half x y units)) (units ≡ [])
+        → Lower → Takes (tree_walk (moving (move_unit kind source)) size (suc depth) x y) (tree_read kind size (suc depth) x y) source before units
+    go false e b f none lower = takes_as no_walk _ (λ b'. give []) _ source before units
         (λ rest. cond-true (not (is_inside size x y)) _ _ (ap not e)) (cond-true (not (is_inside size x y)) _ _ (ap not e)) (takes_none (λ b'. give []) source before units none refl)
     go true e false f q lower = takes_as split_walk _ split_read _ source before units
         (λ rest. cond-false (not (is_inside size x y)) _ _ (ap not e) ∙ cond-true (not (is_whole size (2 * half) x y)) _ _ (ap not f))
         (cond-false (not (is_inside size x y)) _ _ (ap not e) ∙ cond-true (not (is_whole size (2 * half) x y)) _ _ (ap not f))
         (four q lower)
     go true e true f u lower = ⊎_elim
-        (λ (v : IsOneUnit x y (4 + depth) units). takes_as (λ b left. then_walk (context_bin false flag ∷ []) (one_of (move_unit kind source) b left)) _
-        (λ b. bin (Context flag) >>= λ c. cond c (split_read b) (coding_unit_read kind size b x y (4 + depth))) _ source before units
-        (λ rest. at_whole rest ∙ cond-true (is_next_leaf (4 + depth) (units ++ rest)) _ _ (ap (λ (l : List MoveLeaf). is_next_leaf (4 + depth) (l ++ rest)) v.one ∙ eq-eqb (4 + depth) (4 + depth) refl))
+        (λ (v : IsOneUnit (block_at x y (4 + depth)) units). takes_as (λ b left. walk_on (context_bin false flag ∷ []) (coding_unit_walk (moving (move_unit kind source)) b left)) _
+        (λ b. bin (Context flag) >>= λ c. cond c (split_read b) (coding_unit_read kind size b (block_at x y (4 + depth)))) _ source before units
+        (λ rest. at_whole rest ∙ cond-true (is_next unit_block (4 + depth) (units ++ rest)) _ _ (ap (λ (l : List MoveLeaf). is_next unit_block (4 + depth) (l ++ rest)) v.one ∙ eq-eqb (4 + depth) (4 + depth) refl))
         read_whole
-        (takes_flag (one_of (move_unit kind source)) split_read (λ b. coding_unit_read kind size b x y (4 + depth)) source before units flag false
+        (takes_flag (coding_unit_walk (moving (move_unit kind source))) split_read (λ b. coding_unit_read kind size b (block_at x y (4 + depth))) source before units flag false
         (takes_unit kind size source x y (4 + depth) before units v (depth_side depth (omega arith)) is fit stand)))
-        (λ (q : AreFourParts (IsUnitTree size depth) half x y units). takes_as (λ b left. then_walk (context_bin true flag ∷ []) (split_walk b left)) _
-        (λ b. bin (Context flag) >>= λ c. cond c (split_read b) (coding_unit_read kind size b x y (4 + depth))) _ source before units
-        (λ rest. at_whole rest ∙ cond-false (is_next_leaf (4 + depth) (units ++ rest)) _ _ (not_leaf q rest))
+        (λ (q : AreFourParts (IsUnitTree size depth) half x y units). takes_as (λ b left. walk_on (context_bin true flag ∷ []) (split_walk b left)) _
+        (λ b. bin (Context flag) >>= λ c. cond c (split_read b) (coding_unit_read kind size b (block_at x y (4 + depth)))) _ source before units
+        (λ rest. at_whole rest ∙ cond-false (is_next unit_block (4 + depth) (units ++ rest)) _ _ (not_leaf q rest))
         read_whole
-        (takes_flag split_walk split_read (λ b. coding_unit_read kind size b x y (4 + depth)) source before units flag true (four q lower)))
+        (takes_flag split_walk split_read (λ b. coding_unit_read kind size b (block_at x y (4 + depth))) source before units flag true (four q lower)))
         u
       where
-        at_whole : (rest : List MoveLeaf) → walk_of (move_unit kind source) size (suc depth) x y before (units ++ rest)
-            ≡ cond (is_next_leaf (4 + depth) (units ++ rest)) (then_walk (context_bin false flag ∷ []) (one_of (move_unit kind source) before (units ++ rest))) (then_walk (context_bin true flag ∷ []) (split_walk before (units ++ rest)))
+        at_whole : (rest : List MoveLeaf) → tree_walk (moving (move_unit kind source)) size (suc depth) x y before (units ++ rest)
+            ≡ cond (is_next unit_block (4 + depth) (units ++ rest)) (walk_on (context_bin false flag ∷ []) (coding_unit_walk (moving (move_unit kind source)) before (units ++ rest))) (walk_on (context_bin true flag ∷ []) (split_walk before (units ++ rest)))
         at_whole rest = cond-false (not (is_inside size x y)) _ _ (ap not e) ∙ cond-false (not (is_whole size (2 * half) x y)) _ _ (ap not f)
 
-        read_whole : tree_read kind size (suc depth) x y before ≡ (bin (Context flag) >>= λ c. cond c (split_read before) (coding_unit_read kind size before x y (4 + depth)))
+        read_whole : tree_read kind size (suc depth) x y before ≡ (bin (Context flag) >>= λ c. cond c (split_read before) (coding_unit_read kind size before (block_at x y (4 + depth))))
         read_whole = cond-false (not (is_inside size x y)) _ _ (ap not e) ∙ cond-false (not (is_whole size (2 * half) x y)) _ _ (ap not f)
 
-        not_leaf : (q : AreFourParts (IsUnitTree size depth) half x y units) (rest : List MoveLeaf) → is_next_leaf (4 + depth) (units ++ rest) ≡ false
+        not_leaf : (q : AreFourParts (IsUnitTree size depth) half x y units) (rest : List MoveLeaf) → is_next unit_block (4 + depth) (units ++ rest) ≡ false
         not_leaf q rest =
             let h : HasFirst (3 + depth) q.first = tree_first size depth x y q.first q.top_left e in
-            let s : h.first.log2 ≤ 3 + depth = h.small in
-            let differs_there : (h.first.log2 == 4 + depth) ≡ false = ne_eqb h.first.log2 (4 + depth) (λ k. omega arith) in
-            ap (λ (l : List MoveLeaf). is_next_leaf (4 + depth) (l ++ rest)) (q.together ∙ ap (λ (l : List MoveLeaf). ((l ++ q.second) ++ q.third) ++ q.fourth) h.is) ∙ differs_there
+            let s : h.first.block.log2 ≤ 3 + depth = h.small in
+            let differs_there : (h.first.block.log2 == 4 + depth) ≡ false = ne_eqb h.first.block.log2 (4 + depth) (λ k. omega arith) in
+            ap (λ (l : List MoveLeaf). is_next unit_block (4 + depth) (l ++ rest)) (q.together ∙ ap (λ (l : List MoveLeaf). ((l ++ q.second) ++ q.third) ++ q.fourth) h.is) ∙ differs_there
 
 -- the law of coding tree units
 pub trees_are_read : EachUnitTreeIsRead
-unfolding ctu_read ctu_items_of
+unfolding ctu_read ctu_items
 trees_are_read kind size source ctu before units is modes short t stand =
     let x : ℕ = ctu_x size ctu in
     let y : ℕ = ctu_y size ctu in
-    let walk : List Moving → List MoveLeaf → UnitWalk = walk_of (move_unit kind source) size 2 x y in
+    let walk : List Moving → List MoveLeaf → Walk MoveLeaf Moving = tree_walk (moving (move_unit kind source)) size 2 x y in
     let r : Takes walk (tree_read kind size 2 x y) source before units =
     tree_is_read kind size source 2 x y before units (omega arith) is t (record { modes = modes; short = short }) stand in
     let same : walk before units ≡ record { list = r.list; before = coded_after before units; left = [] } =
     ap (walk before) (sym (append-nil units)) ∙ r.walks [] in
-    reads_as _ r.list _ _ _ (sym (ap (λ (w : UnitWalk). w.list) same)) refl r.reads
+    reads_as _ r.list _ _ _ (sym (ap (λ (w : Walk MoveLeaf Moving). w.list) same)) refl r.reads

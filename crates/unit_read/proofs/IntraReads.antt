@@ -7,6 +7,7 @@ use Rattle.h265_model.specs.Engine.{Engine, refuse, context_read}
 use Rattle.h265_model.specs.Modes.{mode_read}
 use Rattle.h265_model.specs.Motion.{Moving, leaves}
 use Rattle.h265_model.specs.Tree.{Content, Levels, intra_read, component_read, candidates_at}
+use Rattle.h265_model.specs.Plain.{block_at}
 use Rattle.residual_read.proofs.Steps.{then_some, then_none}
 use Rattle.unit_read.specs.declared.intra.Flags.{Flags}
 use Rattle.unit_read.specs.Intra.{flags_read, planes_read, intra_of, GivesIntra}
@@ -175,7 +176,7 @@ joined_flags log2 mode e = chroma (context_read 10 e) ∙ ap (λ (o : Option (Fl
     chroma (Some (false, d)) = cb_of (context_read 12 d)
 
 -- what is read of an intra unit, by the candidates that the units before give
-pub intra_is : (before : List Moving) (x y log2 : ℕ) (e : Engine) → intra_read before x y log2 e ≡ intra_of (candidates_at (leaves before) x y) log2 e
+pub intra_is : (before : List Moving) (x y log2 : ℕ) (e : Engine) → intra_read before (block_at x y log2) e ≡ intra_of (candidates_at (leaves before) x y) log2 e
 intra_is before x y log2 e = go (mode_read (candidates_at (leaves before) x y) e) ∙ sym (intra_open (candidates_at (leaves before) x y) log2 e)
   where
     go : (o : Option (ℕ × Engine)) → and_then o (λ mode. and_then (context_read 10 mode.1) (chroma_all log2 mode.0)) ≡ and_then o (mode_then log2)
@@ -183,6 +184,6 @@ intra_is before x y log2 e = go (mode_read (candidates_at (leaves before) x y) e
     go (Some (mode, d)) = joined_flags log2 mode d
 
 pub as_unit : (result : Option ℕ) (first second third : List ℤ) (list : List ℕ) (log2 : ℕ) (e d : Engine) → GivesIntra result first second third (intra_of list log2 e) d
-    → (before : List Moving) (x y : ℕ) → list ≡ candidates_at (leaves before) x y → GivesIntra result first second third (intra_read before x y log2 e) d
+    → (before : List Moving) (x y : ℕ) → list ≡ candidates_at (leaves before) x y → GivesIntra result first second third (intra_read before (block_at x y log2) e) d
 as_unit result first second third list log2 e d given before x y is =
     subst (λ (r : Option (Content × Engine)). GivesIntra result first second third r d) (ap (λ (l : List ℕ). intra_of l log2 e) is ∙ sym (intra_is before x y log2 e)) given

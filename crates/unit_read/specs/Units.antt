@@ -3,7 +3,7 @@ use Rattle.std.specs.Prelude.{◌≡◌, ℕ, ◌*◌, ◌^◌, ◌==◌, Bool, 
 use Rattle.h265_model.specs.declared.Place.TheVariants.{Context}
 use Rattle.h265_model.specs.declared.leaf.SliceKind.{SliceKind}
 use Rattle.h265_model.specs.declared.moves.Vector.{Vector}
-use Rattle.h265_model.specs.Plain.{Size}
+use Rattle.h265_model.specs.Plain.{block_at, Size}
 use Rattle.h265_model.specs.SyntaxElements.{cu_transquant_bypass_flag, part_mode}
 use Rattle.h265_model.specs.Engine.{Engine, Reader, ◌>>=◌, give, refuse}
 use Rattle.h265_model.specs.Motion.{Moving, leaves, merge}
@@ -23,7 +23,7 @@ kept_of content = record { kind = kind_of content; vector = vector_of content }
 
 -- a copy needs its source in the coded picture
 abbrev pub placed : Size → ℕ → ℕ → ℕ → Content → Reader Content
-placed size x y log2 content = if is_in_picture size x y log2 (vector_of content) then give content else refuse
+placed size x y log2 content = if is_in_picture size (block_at x y log2) (vector_of content) then give content else refuse
 
 abbrev pub placed_after : Reader Content → Size → ℕ → ℕ → ℕ → Reader Content
 placed_after read size x y log2 = read >>= placed size x y log2
@@ -32,7 +32,7 @@ placed_after read size x y log2 = read >>= placed size x y log2
 unfoldable pub rest_read : SliceKind → Size → List Moving → ℕ → ℕ → ℕ → Reader Content
 rest_read kind size before x y log2 = do
   skipped ← skip_read kind (leaves before) x y
-  if skipped then placed size x y log2 (Copied (merge before x y log2)) else placed_after (coded_read kind before x y log2) size x y log2
+  if skipped then placed size x y log2 (Copied (merge before (block_at x y log2))) else placed_after (coded_read kind before (block_at x y log2)) size x y log2
 
 -- part_mode, where a unit has one of its own
 abbrev pub part_then : ℕ → Reader Content → Reader Content

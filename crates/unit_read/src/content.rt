@@ -1,6 +1,6 @@
 //! Units that aren't copied: their samples, or their mode and levels.
 ghost use Rattle.std.specs.Prelude.{◌≡◌, ◌<◌, ◌≤◌, ◌+◌, ◌*◌, ◌%◌, ◌^◌, List, length, None, IfSome};
-ghost use Rattle.h265_model.specs.Plain.{coded};
+ghost use Rattle.h265_model.specs.Plain.{block_at, coded};
 ghost use Rattle.h265_model.specs.Motion.{Moving, leaves};
 ghost use Rattle.h265_model.specs.Tree.{IsMode, pcm_read, intra_read, content_read, own_read};
 ghost use Rattle.pu_code.specs.Cells.{StandsFor};
@@ -93,7 +93,7 @@ fn read_levels<S: LeafSink>(
     requires across { x + 2 ^ log2 ≤ coded size.w }
     requires down { y + 2 ^ log2 ≤ coded size.h }
     ensures value { (before : List Moving) → StandsFor grid.now (leaves before)
-        → Hands result (intra_read before x y log2 decoder.old) decoder.new (Takes (S.stands_for sink.old) (S.stands_for sink.new) size x y log2) }
+        → Hands result (intra_read before (block_at x y log2) decoder.old) decoder.new (Takes (S.stands_for sink.old) (S.stands_for sink.new) size x y log2) }
     ensures open { IfSome result (λ _. IsOpen decoder.new) }
     ensures still { IfSome result (λ kept. kept.vector ≡ None) }
     ensures mode { IfSome result (λ kept. IsMode kept.kind) }
@@ -136,7 +136,7 @@ fn read_content<S: LeafSink>(
     requires across { x + 2 ^ log2 ≤ coded size.w }
     requires down { y + 2 ^ log2 ≤ coded size.h }
     ensures value { (before : List Moving) → StandsFor grid.now (leaves before)
-        → Hands result (content_read before x y log2 decoder.old) decoder.new (Takes (S.stands_for sink.old) (S.stands_for sink.new) size x y log2) }
+        → Hands result (content_read before (block_at x y log2) decoder.old) decoder.new (Takes (S.stands_for sink.old) (S.stands_for sink.new) size x y log2) }
     ensures open { IfSome result (λ _. IsOpen decoder.new) }
     ensures still { IfSome result (λ kept. kept.vector ≡ None) }
     ensures mode { IfSome result (λ kept. IsMode kept.kind) }
@@ -169,7 +169,7 @@ pub(crate) fn read_own<S: LeafSink>(
     requires across { x + 2 ^ log2 ≤ coded size.w }
     requires down { y + 2 ^ log2 ≤ coded size.h }
     ensures value { (before : List Moving) → StandsFor grid.now (leaves before)
-        → Hands result (own_read before x y log2 decoder.old) decoder.new (Takes (S.stands_for sink.old) (S.stands_for sink.new) size x y log2) }
+        → Hands result (own_read before (block_at x y log2) decoder.old) decoder.new (Takes (S.stands_for sink.old) (S.stands_for sink.new) size x y log2) }
     ensures open { IfSome result (λ _. IsOpen decoder.new) }
     ensures still { IfSome result (λ kept. kept.vector ≡ None) }
     ensures mode { IfSome result (λ kept. IsMode kept.kind) }

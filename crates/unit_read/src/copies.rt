@@ -1,6 +1,6 @@
 //! Units that are copied, by the merge vector or by their own.
 ghost use Rattle.std.specs.Prelude.{◌≡◌, ◌<◌, ◌≤◌, ◌+◌, ◌%◌, ◌^◌, ◌&&◌, List, IfSome};
-ghost use Rattle.h265_model.specs.Plain.{coded};
+ghost use Rattle.h265_model.specs.Plain.{block_at, coded};
 ghost use Rattle.h265_model.specs.Engine.{Engine};
 ghost use Rattle.h265_model.specs.Motion as motion;
 ghost use Rattle.h265_model.specs.Motion.{Moving};
@@ -70,7 +70,7 @@ fn has_source(size: Size, x: u32, y: u32, log2: u32, vector: Vector) -> bool
     requires high { log2 ≤ 5 }
     requires across { x + 2 ^ log2 ≤ coded size.w }
     requires down { y + 2 ^ log2 ≤ coded size.h }
-    ensures { result ≡ motion.has_source size x y log2 vector }
+    ensures { result ≡ motion.has_source size (block_at x y log2) vector }
 {
     let n = side(log2);
     let (wide, tall) = (coded_side(size.w()), coded_side(size.h()));
@@ -150,7 +150,7 @@ fn read_move(
     requires high { log2 ≤ 5 }
     requires across { x < coded motion.now.size.w }
     requires down { y < coded motion.now.size.h }
-    ensures value { (before : List Moving) → HasMotion motion.now before → Moves result (move_read before x y log2 decoder.old) decoder.new }
+    ensures value { (before : List Moving) → HasMotion motion.now before → Moves result (move_read before (block_at x y log2) decoder.old) decoder.new }
     ensures open { IfSome result (λ _. IsOpen decoder.new) }
 {
     expect(decoder, 8, true)?;
@@ -180,7 +180,7 @@ pub(crate) fn read_moved<S: LeafSink>(
     requires across { x + 2 ^ log2 ≤ coded size.w }
     requires down { y + 2 ^ log2 ≤ coded size.h }
     ensures value { (before : List Moving) → HasMotion motion.now before
-        → Hands result (placed_after (move_read before x y log2) size x y log2 decoder.old) decoder.new (Takes (S.stands_for sink.old) (S.stands_for sink.new) size x y log2) }
+        → Hands result (placed_after (move_read before (block_at x y log2)) size x y log2 decoder.old) decoder.new (Takes (S.stands_for sink.old) (S.stands_for sink.new) size x y log2) }
     ensures open { IfSome result (λ _. IsOpen decoder.new) }
     ensures mode { IfSome result (λ kept. IsMode kept.kind) }
     ensures last { S.last sink.new ≡ S.last sink.old }

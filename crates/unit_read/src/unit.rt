@@ -1,7 +1,7 @@
 //! Coding units.
 ghost use Rattle.std.specs.Prelude.{◌≡◌, ◌<◌, ◌≤◌, ◌+◌, ◌%◌, ◌^◌, List, IfSome};
 ghost use Rattle.h265_model.specs.declared.leaf.SliceKind.TheVariants.{P};
-ghost use Rattle.h265_model.specs.Plain.{coded};
+ghost use Rattle.h265_model.specs.Plain.{block_at, coded};
 ghost use Rattle.h265_model.specs.Motion.{Moving, leaves};
 ghost use Rattle.h265_model.specs.Tree.{IsMode, coded_read, coding_unit_read};
 ghost use Rattle.pu_code.specs.Cells.{StandsFor};
@@ -43,7 +43,7 @@ fn read_inter<S: LeafSink>(
     requires across { x + 2 ^ log2 ≤ coded size.w }
     requires down { y + 2 ^ log2 ≤ coded size.h }
     ensures value { (before : List Moving) → StandsFor grid.now (leaves before) → HasMotion motion.now before
-        → Hands result (placed_after (coded_read P before x y log2) size x y log2 decoder.old) decoder.new (Takes (S.stands_for sink.old) (S.stands_for sink.new) size x y log2) }
+        → Hands result (placed_after (coded_read P before (block_at x y log2)) size x y log2 decoder.old) decoder.new (Takes (S.stands_for sink.old) (S.stands_for sink.new) size x y log2) }
     ensures open { IfSome result (λ _. IsOpen decoder.new) }
     ensures mode { IfSome result (λ kept. IsMode kept.kind) }
     ensures last { S.last sink.new ≡ S.last sink.old }
@@ -78,7 +78,7 @@ fn read_coded<S: LeafSink>(
     requires across { x + 2 ^ log2 ≤ coded size.w }
     requires down { y + 2 ^ log2 ≤ coded size.h }
     ensures value { (before : List Moving) → StandsFor grid.now (leaves before) → HasMotion motion.now before
-        → Hands result (placed_after (coded_read kind before x y log2) size x y log2 decoder.old) decoder.new (Takes (S.stands_for sink.old) (S.stands_for sink.new) size x y log2) }
+        → Hands result (placed_after (coded_read kind before (block_at x y log2)) size x y log2 decoder.old) decoder.new (Takes (S.stands_for sink.old) (S.stands_for sink.new) size x y log2) }
     ensures open { IfSome result (λ _. IsOpen decoder.new) }
     ensures mode { IfSome result (λ kept. IsMode kept.kind) }
     ensures last { S.last sink.new ≡ S.last sink.old }
@@ -149,7 +149,7 @@ pub fn read_unit<S: LeafSink>(
     requires row { y % 2 ^ log2 ≡ 0 }
     requires across { x + 2 ^ log2 ≤ coded size.w }
     requires down { y + 2 ^ log2 ≤ coded size.h }
-    ensures read { (before : List Moving) → AreKept grid.old motion.old before → Reads result (coding_unit_read kind size before x y log2 decoder.old) decoder.new
+    ensures read { (before : List Moving) → AreKept grid.old motion.old before → Reads result (coding_unit_read kind size before (block_at x y log2) decoder.old) decoder.new
         (AreTaken (S.stands_for sink.old) (S.stands_for sink.new) size x y grid.new motion.new before) }
     ensures open { IfSome result (λ _. IsOpen decoder.new) }
     ensures grid { grid.new.size ≡ size }

@@ -1,4 +1,4 @@
-use Rattle.std.proofs.Common.{ℕ, List, sym, subst}
+use Rattle.std.proofs.Common.{refl, ℕ, List, sym, subst}
 use Rattle.recorder_model.specs.declared.entry.Entry.{Entry}
 use Rattle.recorder_model.specs.declared.line.Line.{Line}
 use Rattle.recorder_model.specs.Files.{WhereTold}
@@ -36,6 +36,6 @@ returns-clause-files g c =
     recorded_files (record_view c.args.words.now) c.args.scripts c.record_into-recording.result.order.items c.finish.result.order c.finish.result.written
     c.in-Ok.session.settings c.in-Ok.session.scripts (g.F.Shelf.files c.args.shelf.now) (g.F.Shelf.files c.create.new.self) (g.F.Shelf.files c.record_into-recording.new.shelf)
     c.record_into-recording.result.lost c.record_into-recording.result.end c.finish.result.status
-    c.in-Ok.ensures.settings c.in-Ok.ensures.scripts (c.w-width.ensures.within, c.requires.within.0.0) c.requires.spellable
+    c.in-Ok.ensures.settings c.in-Ok.ensures.scripts (c.w-width.ensures.within, refl) c.requires.spellable
     c.finish.ensures.order c.finish.ensures.written c.record_into-recording.ensures.order c.finish.ensures.status
     c.in_default-create.ensures.files c.record_into-recording.ensures.files

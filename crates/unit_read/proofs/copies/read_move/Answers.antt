@@ -5,13 +5,14 @@ use Rattle.h265_model.specs.Tree.{Moved}
 use Rattle.residual_read.proofs.Steps.{then_some, then_none}
 use Rattle.unit_read.proofs.UnitReads.{move_open, merge_then, vector_then, end_then}
 use Rattle.unit_read.proofs.copies.read_move.Goals as goal
+use Rattle.h265_model.specs.Plain.{block_at}
 
 pub returns-in_err-expect-clause-value : goal.returns-in_err-expect-clause-value
-returns-in_err-expect-clause-value c = λ before has. rw c.from_residual.ensures (move_open before c.args.x c.args.y c.args.log2 (predictors before c.args.x c.args.y c.args.log2) c.args.decoder.now refl ∙ c.in_err-expect.ensures.value (merge_then (predictors before c.args.x c.args.y c.args.log2)))
+returns-in_err-expect-clause-value c = λ before has. rw c.from_residual.ensures (move_open before c.args.x c.args.y c.args.log2 (predictors before (block_at c.args.x c.args.y c.args.log2)) c.args.decoder.now refl ∙ c.in_err-expect.ensures.value (merge_then (predictors before (block_at c.args.x c.args.y c.args.log2))))
 
 pub returns-in_err-expect-2-clause-value : goal.returns-in_err-expect-2-clause-value
-returns-in_err-expect-2-clause-value c = λ before has. rw c.from_residual-in_err-expect-2.ensures (move_open before c.args.x c.args.y c.args.log2 (predictors before c.args.x c.args.y c.args.log2) c.args.decoder.now refl ∙ c.in_ok-expect.ensures.value (merge_then (predictors before c.args.x c.args.y c.args.log2))
-    ∙ c.in_err-expect-2.ensures.value (vector_then (predictors before c.args.x c.args.y c.args.log2)))
+returns-in_err-expect-2-clause-value c = λ before has. rw c.from_residual-in_err-expect-2.ensures (move_open before c.args.x c.args.y c.args.log2 (predictors before (block_at c.args.x c.args.y c.args.log2)) c.args.decoder.now refl ∙ c.in_ok-expect.ensures.value (merge_then (predictors before (block_at c.args.x c.args.y c.args.log2)))
+    ∙ c.in_err-expect-2.ensures.value (vector_then (predictors before (block_at c.args.x c.args.y c.args.log2))))
 
 pub returns-in_err-vector-clause-value : goal.returns-in_err-vector-clause-value
 returns-in_err-vector-clause-value c = λ before has. rw c.from_residual-in_err-vector.ensures (move_open before c.args.x c.args.y c.args.log2 c.predictors.result c.args.decoder.now (c.predictors.ensures before has) ∙ c.in_ok-expect.ensures.value (merge_then c.predictors.result)

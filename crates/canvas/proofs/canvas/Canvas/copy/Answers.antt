@@ -3,7 +3,7 @@ use Rattle.std.specs.Prelude.{IsTrue, ℤ}
 use Rattle.std.proofs.lemmas.Int.{to_z-of_z}
 use Rattle.h265_model.specs.Motion.{has_source, moved}
 use Rattle.h265_model.specs.Tree.{Copied, Moved}
-use Rattle.h265_model.specs.Plain.{Size, coded}
+use Rattle.h265_model.specs.Plain.{block_at, Size, coded}
 use Rattle.h265_model.specs.Settings.{is_size}
 use Rattle.leaf_sink.specs.Units.{unit}
 use Rattle.canvas.specs.Drawing.{Pictures, Draws, CanMove, IsCopied}
@@ -50,7 +50,7 @@ returns-clause-copied c = λ units draws.
     (c.moved-from_x.ensures ∙ ap (λ (v : ℤ). moved c.args.x v) bx) (c.moved-from_y.ensures ∙ ap (λ (v : ℤ). moved c.args.y v) by) c.side-n.ensures.value c.copy_block.ensures.copied refl in
     unit_drawn old new units (unit c.args.x c.args.y c.args.log2 (Copied c.args.vector)) (subst (λ (p : Pictures). Draws p units) (sym c.self.view_is) draws)
     (copy_drawn old new units (unit c.args.x c.args.y c.args.log2 (Copied c.args.vector)) c.args.vector c.self.invariant.last.sized c.self.invariant.same (c.copy_block.ensures.size ∙ c.self.invariant.same)
-    (subst (λ (s : Size). IsTrue (has_source s c.args.x c.args.y c.args.log2 c.args.vector)) size c.requires.source) (copied_by c.args.vector) is)
+    (subst (λ (s : Size). IsTrue (has_source s (block_at c.args.x c.args.y c.args.log2) c.args.vector)) size c.requires.source) (copied_by c.args.vector) is)
 
 pub returns-clause-moved : goal.returns-clause-moved
 returns-clause-moved c = λ units draws.
@@ -64,4 +64,4 @@ returns-clause-moved c = λ units draws.
     (c.moved-from_x.ensures ∙ ap (λ (v : ℤ). moved c.args.x v) bx) (c.moved-from_y.ensures ∙ ap (λ (v : ℤ). moved c.args.y v) by) c.side-n.ensures.value c.copy_block.ensures.copied refl in
     unit_drawn old new units (unit c.args.x c.args.y c.args.log2 (Moved c.args.vector)) (subst (λ (p : Pictures). Draws p units) (sym c.self.view_is) draws)
     (copy_drawn old new units (unit c.args.x c.args.y c.args.log2 (Moved c.args.vector)) c.args.vector c.self.invariant.last.sized c.self.invariant.same (c.copy_block.ensures.size ∙ c.self.invariant.same)
-    (subst (λ (s : Size). IsTrue (has_source s c.args.x c.args.y c.args.log2 c.args.vector)) size c.requires.source) (moved_by c.args.vector) is)
+    (subst (λ (s : Size). IsTrue (has_source s (block_at c.args.x c.args.y c.args.log2) c.args.vector)) size c.requires.source) (moved_by c.args.vector) is)
