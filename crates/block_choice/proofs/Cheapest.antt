@@ -3,6 +3,7 @@ use Rattle.std.proofs.Common.{◌≡◌, refl, sym, ap, ◌∙◌, ℕ, zero, su
 use Rattle.std.specs.List.{AllByRecursion}
 use Rattle.std.proofs.lemmas.Bool.{le-leb, lt-leb, cases_lt}
 use Rattle.h265_model.proofs.ListParts.{all_append}
+use Rattle.h265_model.specs.declared.block.CodingBlock.{CodingBlock}
 use Rattle.h265_model.specs.declared.leaf.Kind.TheVariants.{Intra}
 use Rattle.h265_model.specs.Plain.{Size, Picture, leaf_with}
 use Rattle.h265_model.specs.Choice.{Plan, cheaper, cheapest, best_of, one_leaf, intra_cost}
@@ -62,44 +63,44 @@ best_most (p ∷ plans) last = cheapest_most p plans last
 
 -- ---- the plans of modes
 
-pub all_dear : (size : Size) (now : Picture) (x y log2 k : ℕ) (modes : List ℕ)
-    → ((i : ℕ) → i < length modes → k ≤ intra_cost size now (leaf_with x y log2 (Intra (get_or modes i 0)))) → AllByRecursion (λ p. k ≤ p.cost) (intra_plans size now x y log2 modes)
-all_dear size now x y log2 k [] each = tt
-all_dear size now x y log2 k (m ∷ modes) each = (each 0 (omega arith), all_dear size now x y log2 k modes (λ i h. each (suc i) (omega arith)))
+pub all_dear : (size : Size) (now : Picture) (block : CodingBlock) (k : ℕ) (modes : List ℕ)
+    → ((i : ℕ) → i < length modes → k ≤ intra_cost size now (leaf_with block (Intra (get_or modes i 0)))) → AllByRecursion (λ p. k ≤ p.cost) (intra_plans size now block modes)
+all_dear size now block k [] each = tt
+all_dear size now block k (m ∷ modes) each = (each 0 (omega arith), all_dear size now block k modes (λ i h. each (suc i) (omega arith)))
 
-pick : (size : Size) (now : Picture) (x y log2 v : ℕ) (modes : List ℕ) (best : Plan) (at : ℕ) → at < length modes
-    → ((i : ℕ) → i < at → v < intra_cost size now (leaf_with x y log2 (Intra (get_or modes i 0))))
-    → ((i : ℕ) → i < length modes → v ≤ intra_cost size now (leaf_with x y log2 (Intra (get_or modes i 0))))
-    → v ≡ intra_cost size now (leaf_with x y log2 (Intra (get_or modes at 0))) → v < best.cost
-    → cheapest best (intra_plans size now x y log2 modes) ≡ one_leaf v (leaf_with x y log2 (Intra (get_or modes at 0)))
-pick size now x y log2 v [] best at within earlier least is below = absurd (omega arith)
-pick size now x y log2 v (m ∷ modes) best zero within earlier least is below =
-    let one : Plan = one_leaf (intra_cost size now (leaf_with x y log2 (Intra m))) (leaf_with x y log2 (Intra m)) in
-    let all : AllByRecursion (λ p. v ≤ p.cost) (intra_plans size now x y log2 modes) = all_dear size now x y log2 v modes (λ i h. least (suc i) (omega arith)) in
-    let all' : AllByRecursion (λ p. one.cost ≤ p.cost) (intra_plans size now x y log2 modes) = rw is at all in
-    ap (λ (b : Plan). cheapest b (intra_plans size now x y log2 modes)) (cheaper_second best one (omega arith))
-    ∙ (cheapest_keep one (intra_plans size now x y log2 modes) all' ∙ ap (λ (k : ℕ). one_leaf k (leaf_with x y log2 (Intra m))) (sym is))
-pick size now x y log2 v (m ∷ modes) best (suc at) within earlier least is below =
-    let one : Plan = one_leaf (intra_cost size now (leaf_with x y log2 (Intra m))) (leaf_with x y log2 (Intra m)) in
+pick : (size : Size) (now : Picture) (block : CodingBlock) (v : ℕ) (modes : List ℕ) (best : Plan) (at : ℕ) → at < length modes
+    → ((i : ℕ) → i < at → v < intra_cost size now (leaf_with block (Intra (get_or modes i 0))))
+    → ((i : ℕ) → i < length modes → v ≤ intra_cost size now (leaf_with block (Intra (get_or modes i 0))))
+    → v ≡ intra_cost size now (leaf_with block (Intra (get_or modes at 0))) → v < best.cost
+    → cheapest best (intra_plans size now block modes) ≡ one_leaf v (leaf_with block (Intra (get_or modes at 0)))
+pick size now block v [] best at within earlier least is below = absurd (omega arith)
+pick size now block v (m ∷ modes) best zero within earlier least is below =
+    let one : Plan = one_leaf (intra_cost size now (leaf_with block (Intra m))) (leaf_with block (Intra m)) in
+    let all : AllByRecursion (λ p. v ≤ p.cost) (intra_plans size now block modes) = all_dear size now block v modes (λ i h. least (suc i) (omega arith)) in
+    let all' : AllByRecursion (λ p. one.cost ≤ p.cost) (intra_plans size now block modes) = rw is at all in
+    ap (λ (b : Plan). cheapest b (intra_plans size now block modes)) (cheaper_second best one (omega arith))
+    ∙ (cheapest_keep one (intra_plans size now block modes) all' ∙ ap (λ (k : ℕ). one_leaf k (leaf_with block (Intra m))) (sym is))
+pick size now block v (m ∷ modes) best (suc at) within earlier least is below =
+    let one : Plan = one_leaf (intra_cost size now (leaf_with block (Intra m))) (leaf_with block (Intra m)) in
     let more : v < one.cost = earlier 0 (omega arith) in
     let both : suc v ≤ (cheaper best one).cost = cheaper_least (suc v) best one (omega arith) (omega arith) in
-    pick size now x y log2 v modes (cheaper best one) at (omega arith) (λ i h. earlier (suc i) (omega arith)) (λ i h. least (suc i) (omega arith)) is (omega arith)
+    pick size now block v modes (cheaper best one) at (omega arith) (λ i h. earlier (suc i) (omega arith)) (λ i h. least (suc i) (omega arith)) is (omega arith)
 
-pub best_pick : (size : Size) (now : Picture) (x y log2 v : ℕ) (modes : List ℕ) (last : Plan) (at : ℕ) → at < length modes
-    → ((i : ℕ) → i < at → v < intra_cost size now (leaf_with x y log2 (Intra (get_or modes i 0))))
-    → ((i : ℕ) → i < length modes → v ≤ intra_cost size now (leaf_with x y log2 (Intra (get_or modes i 0))))
-    → v ≡ intra_cost size now (leaf_with x y log2 (Intra (get_or modes at 0))) → v ≤ last.cost
-    → best_of (intra_plans size now x y log2 modes) last ≡ one_leaf v (leaf_with x y log2 (Intra (get_or modes at 0)))
-best_pick size now x y log2 v [] last at within earlier least is below = absurd (omega arith)
-best_pick size now x y log2 v (m ∷ modes) last zero within earlier least is below =
-    let one : Plan = one_leaf (intra_cost size now (leaf_with x y log2 (Intra m))) (leaf_with x y log2 (Intra m)) in
-    let all : AllByRecursion (λ p. v ≤ p.cost) (intra_plans size now x y log2 modes) = all_dear size now x y log2 v modes (λ i h. least (suc i) (omega arith)) in
-    let all' : AllByRecursion (λ p. one.cost ≤ p.cost) (intra_plans size now x y log2 modes) = rw is at all in
-    best_first one (intra_plans size now x y log2 modes) last all' (omega arith) ∙ ap (λ (k : ℕ). one_leaf k (leaf_with x y log2 (Intra m))) (sym is)
-best_pick size now x y log2 v (m ∷ modes) last (suc at) within earlier least is below =
-    let one : Plan = one_leaf (intra_cost size now (leaf_with x y log2 (Intra m))) (leaf_with x y log2 (Intra m)) in
+pub best_pick : (size : Size) (now : Picture) (block : CodingBlock) (v : ℕ) (modes : List ℕ) (last : Plan) (at : ℕ) → at < length modes
+    → ((i : ℕ) → i < at → v < intra_cost size now (leaf_with block (Intra (get_or modes i 0))))
+    → ((i : ℕ) → i < length modes → v ≤ intra_cost size now (leaf_with block (Intra (get_or modes i 0))))
+    → v ≡ intra_cost size now (leaf_with block (Intra (get_or modes at 0))) → v ≤ last.cost
+    → best_of (intra_plans size now block modes) last ≡ one_leaf v (leaf_with block (Intra (get_or modes at 0)))
+best_pick size now block v [] last at within earlier least is below = absurd (omega arith)
+best_pick size now block v (m ∷ modes) last zero within earlier least is below =
+    let one : Plan = one_leaf (intra_cost size now (leaf_with block (Intra m))) (leaf_with block (Intra m)) in
+    let all : AllByRecursion (λ p. v ≤ p.cost) (intra_plans size now block modes) = all_dear size now block v modes (λ i h. least (suc i) (omega arith)) in
+    let all' : AllByRecursion (λ p. one.cost ≤ p.cost) (intra_plans size now block modes) = rw is at all in
+    best_first one (intra_plans size now block modes) last all' (omega arith) ∙ ap (λ (k : ℕ). one_leaf k (leaf_with block (Intra m))) (sym is)
+best_pick size now block v (m ∷ modes) last (suc at) within earlier least is below =
+    let one : Plan = one_leaf (intra_cost size now (leaf_with block (Intra m))) (leaf_with block (Intra m)) in
     let more : v < one.cost = earlier 0 (omega arith) in
-    let p : cheapest one (intra_plans size now x y log2 modes) ≡ one_leaf v (leaf_with x y log2 (Intra (get_or modes at 0))) =
-    pick size now x y log2 v modes one at (omega arith) (λ i h. earlier (suc i) (omega arith)) (λ i h. least (suc i) (omega arith)) is more in
-    cheapest_append one (intra_plans size now x y log2 modes) last
-    ∙ rw p (cheaper_first (one_leaf v (leaf_with x y log2 (Intra (get_or modes at 0)))) last below)
+    let p : cheapest one (intra_plans size now block modes) ≡ one_leaf v (leaf_with block (Intra (get_or modes at 0))) =
+    pick size now block v modes one at (omega arith) (λ i h. earlier (suc i) (omega arith)) (λ i h. least (suc i) (omega arith)) is more in
+    cheapest_append one (intra_plans size now block modes) last
+    ∙ rw p (cheaper_first (one_leaf v (leaf_with block (Intra (get_or modes at 0)))) last below)

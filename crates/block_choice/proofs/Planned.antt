@@ -2,9 +2,10 @@
 use Rattle.std.proofs.Common.{◌≡◌, refl, ap, ◌∙◌, ℕ, zero, suc, ◌+◌, ◌*◌, ◌-◌, ◌/◌, ◌%◌, ◌^◌, ◌<◌, ◌≤◌, Bool, true, false, cond, not, List, ◌++◌, arith, pow-suc, inl, inr}
 use Rattle.std.specs.Prelude.{Option, Some, None}
 use Rattle.std.proofs.lemmas.Bool.{false≢true, and_parts, ltb-true, cases_lt}
+use Rattle.h265_model.specs.declared.block.CodingBlock.{CodingBlock}
 use Rattle.h265_model.specs.declared.leaf.Kind.TheVariants.{Pcm, Skip}
 use Rattle.h265_model.specs.declared.leaf.Leaf.{Leaf}
-use Rattle.h265_model.specs.Plain.{Size, Picture, coded, leaf_with}
+use Rattle.h265_model.specs.Plain.{block_at, Size, Picture, coded, leaf_with}
 use Rattle.h265_model.specs.Predict.{is_inside}
 use Rattle.h265_model.specs.Tree.{is_whole}
 use Rattle.h265_model.specs.Choice.{Plan, cheaper, one_leaf, leaf_plan, pcm_cost, plan, split_plan, no_leaves, both, skips, modes_of}
@@ -27,7 +28,7 @@ module _ (prev : Option Picture) (now : Picture) (size : Size) (effort : ℕ) wh
   turned false s l = refl
 
   step : (d x y : ℕ) → is_inside size x y ≡ true
-      → plan prev now size effort (suc d) x y ≡ cond (is_whole size (2 ^ (3 + suc d)) x y) (cheaper (leaf_plan prev now size effort x y (3 + suc d)) (split_of d x y)) (split_of d x y)
+      → plan prev now size effort (suc d) x y ≡ cond (is_whole size (2 ^ (3 + suc d)) x y) (cheaper (leaf_plan prev now size effort (block_at x y (3 + suc d))) (split_of d x y)) (split_of d x y)
   step d x y inside =
       let n : 3 + suc d ≡ suc (3 + d) = omega arith in
       let side : 2 ^ (3 + suc d) ≡ 2 * 2 ^ (3 + d) = ap (λ (k : ℕ). 2 ^ k) n ∙ (pow-suc 2 (3 + d) ∙ omega arith) in
@@ -46,56 +47,56 @@ module _ (prev : Option Picture) (now : Picture) (size : Size) (effort : ℕ) wh
   bound_of None limit = limit
   bound_of (Some b) limit = b.cost
 
-  wins_at : (r : Option Best) (w : Bool) (limit x y depth : ℕ) (p s : Plan) → IsWholeLeaf r limit x y depth w p → s.cost < bound_of r limit → (cond w (cheaper p s) s ≡ s) × (s.cost < limit)
-  wins_at None true limit x y depth p s is less = let m : limit ≤ p.cost = is refl in (cheaper_second p s (omega arith), less)
-  wins_at None false limit x y depth p s is less = (refl, less)
-  wins_at (Some b) true limit x y depth p s is less =
+  wins_at : (r : Option Best) (w : Bool) (limit : ℕ) (block : CodingBlock) (p s : Plan) → IsWholeLeaf r limit block w p → s.cost < bound_of r limit → (cond w (cheaper p s) s ≡ s) × (s.cost < limit)
+  wins_at None true limit block p s is less = let m : limit ≤ p.cost = is refl in (cheaper_second p s (omega arith), less)
+  wins_at None false limit block p s is less = (refl, less)
+  wins_at (Some b) true limit block p s is less =
       let e : p.cost ≡ b.cost = ap (λ (q : Plan). q.cost) is.2 in
       let m : b.cost < limit = is.1 in
       (cheaper_second p s (omega arith), omega arith)
-  wins_at (Some b) false limit x y depth p s is less = absurd (false≢true is.0)
+  wins_at (Some b) false limit block p s is less = absurd (false≢true is.0)
 
   none_at : (w : Bool) (limit : ℕ) (p s : Plan) → (w ≡ true → limit ≤ p.cost) → limit ≤ s.cost → limit ≤ (cond w (cheaper p s) s).cost
   none_at true limit p s h m = cheaper_least limit p s (h refl) m
   none_at false limit p s h m = m
 
-  leaf_at : (b : Best) (w : Bool) (limit x y depth : ℕ) (p s : Plan) → IsWholeLeaf (Some b) limit x y depth w p → b.cost ≤ s.cost → cond w (cheaper p s) s ≡ one_leaf b.cost (leaf_with x y (3 + depth) b.kind)
-  leaf_at b true limit x y depth p s is more = let e : p.cost ≡ b.cost = ap (λ (q : Plan). q.cost) is.2 in cheaper_first p s (omega arith) ∙ is.2
-  leaf_at b false limit x y depth p s is more = absurd (false≢true is.0)
+  leaf_at : (b : Best) (w : Bool) (limit : ℕ) (block : CodingBlock) (p s : Plan) → IsWholeLeaf (Some b) limit block w p → b.cost ≤ s.cost → cond w (cheaper p s) s ≡ one_leaf b.cost (leaf_with block b.kind)
+  leaf_at b true limit block p s is more = let e : p.cost ≡ b.cost = ap (λ (q : Plan). q.cost) is.2 in cheaper_first p s (omega arith) ∙ is.2
+  leaf_at b false limit block p s is more = absurd (false≢true is.0)
 
   -- the quarters win
   pub split_planned : (r : Option Best) (limit depth x y cost : ℕ) (old new : List Leaf) → is_inside size x y ≡ true → 0 < depth
-      → IsWholeLeaf r limit x y depth (is_whole size (2 ^ (3 + depth)) x y) (leaf_plan prev now size effort x y (3 + depth))
+      → IsWholeLeaf r limit (block_at x y (3 + depth)) (is_whole size (2 ^ (3 + depth)) x y) (leaf_plan prev now size effort (block_at x y (3 + depth)))
       → IsPlanned (Some cost) (bound_of r limit) (split_of (depth - 1) x y) old new → IsPlanned (Some cost) limit (plan prev now size effort depth x y) old new
   split_planned r limit zero x y cost old new inside some is planned = absurd (omega arith)
   split_planned r limit (suc d) x y cost old new inside some is planned =
       let back : suc d - 1 ≡ d = omega arith in
       let planned' : IsPlanned (Some cost) (bound_of r limit) (split_of d x y) old new = rw back at planned in
       let less : (split_of d x y).cost < bound_of r limit = rw planned'.0 at planned'.1 in
-      let w = wins_at r (is_whole size (2 ^ (3 + suc d)) x y) limit x y (suc d) (leaf_plan prev now size effort x y (3 + suc d)) (split_of d x y) is less in
+      let w = wins_at r (is_whole size (2 ^ (3 + suc d)) x y) limit (block_at x y (3 + suc d)) (leaf_plan prev now size effort (block_at x y (3 + suc d))) (split_of d x y) is less in
       let p : plan prev now size effort (suc d) x y ≡ split_of d x y = step d x y inside ∙ w.0 in
       let low : (split_of d x y).cost < limit = w.1 in
       rw p (planned'.0, rw planned'.0 low, planned'.2)
 
   -- nothing is below the limit
   pub none_planned : (limit depth x y : ℕ) → is_inside size x y ≡ true → x % 8 ≡ 0 → y % 8 ≡ 0
-      → IsWholeLeaf None limit x y depth (is_whole size (2 ^ (3 + depth)) x y) (leaf_plan prev now size effort x y (3 + depth))
+      → IsWholeLeaf None limit (block_at x y (3 + depth)) (is_whole size (2 ^ (3 + depth)) x y) (leaf_plan prev now size effort (block_at x y (3 + depth)))
       → (0 < depth → limit ≤ (split_of (depth - 1) x y).cost) → limit ≤ (plan prev now size effort depth x y).cost
   none_planned limit zero x y inside wx wy is splits = rw inside (is (whole_8 x y inside wx wy))
   none_planned limit (suc d) x y inside wx wy is splits =
       let back : suc d - 1 ≡ d = omega arith in
       let s : limit ≤ (split_of d x y).cost = rw back at (splits (omega arith)) in
-      rw (step d x y inside) (none_at (is_whole size (2 ^ (3 + suc d)) x y) limit (leaf_plan prev now size effort x y (3 + suc d)) (split_of d x y) is s)
+      rw (step d x y inside) (none_at (is_whole size (2 ^ (3 + suc d)) x y) limit (leaf_plan prev now size effort (block_at x y (3 + suc d))) (split_of d x y) is s)
 
   -- one coding unit wins
   pub leaf_planned : (b : Best) (limit depth x y : ℕ) → is_inside size x y ≡ true
-      → IsWholeLeaf (Some b) limit x y depth (is_whole size (2 ^ (3 + depth)) x y) (leaf_plan prev now size effort x y (3 + depth))
-      → (0 < depth → b.cost ≤ (split_of (depth - 1) x y).cost) → plan prev now size effort depth x y ≡ one_leaf b.cost (leaf_with x y (3 + depth) b.kind)
+      → IsWholeLeaf (Some b) limit (block_at x y (3 + depth)) (is_whole size (2 ^ (3 + depth)) x y) (leaf_plan prev now size effort (block_at x y (3 + depth)))
+      → (0 < depth → b.cost ≤ (split_of (depth - 1) x y).cost) → plan prev now size effort depth x y ≡ one_leaf b.cost (leaf_with (block_at x y (3 + depth)) b.kind)
   leaf_planned b limit zero x y inside is splits = rw inside is.2
   leaf_planned b limit (suc d) x y inside is splits =
       let back : suc d - 1 ≡ d = omega arith in
       let s : b.cost ≤ (split_of d x y).cost = rw back at (splits (omega arith)) in
-      step d x y inside ∙ leaf_at b (is_whole size (2 ^ (3 + suc d)) x y) limit x y (suc d) (leaf_plan prev now size effort x y (3 + suc d)) (split_of d x y) is s
+      step d x y inside ∙ leaf_at b (is_whole size (2 ^ (3 + suc d)) x y) limit (block_at x y (3 + suc d)) (leaf_plan prev now size effort (block_at x y (3 + suc d))) (split_of d x y) is s
 
   -- ---- the quarters, one after another
 
@@ -130,7 +131,7 @@ four_some zero = omega arith
 four_some (suc d) = let h = four_some d in let e = pow-suc 4 d in omega arith
 
 -- a quarter of a block in the coding tree unit is one, too
-pub quarter_place : (t : Task) (d x y q half : ℕ) → d ≤ 1 → q < 4 → half ≡ 2 ^ (3 + d) → IsPlace t (d + 1) x y → IsPlace t d (x + q % 2 * half) (y + q / 2 * half)
+pub quarter_place : (t : Task) (d x y q half : ℕ) → d ≤ 1 → q < 4 → half ≡ 2 ^ (3 + d) → IsPlace t (block_at x y (3 + (d + 1))) → IsPlace t (block_at (x + q % 2 * half) (y + q / 2 * half) (3 + d))
 quarter_place t zero x y q half most less e place =
     let right : x + 16 ≤ t.x + 32 = place.right in
     let bottom : y + 16 ≤ t.y + 32 = place.bottom in
@@ -153,9 +154,9 @@ quarter_place t (suc (suc d)) x y q half most less e place = absurd (omega arith
 
 -- ---- what a plan costs at most
 
-leaf_most : (prev : Option Picture) (now : Picture) (size : Size) (effort x y log2 : ℕ) → (leaf_plan prev now size effort x y log2).cost ≤ pcm_cost log2
+leaf_most : (prev : Option Picture) (now : Picture) (size : Size) (effort : ℕ) (block : CodingBlock) → (leaf_plan prev now size effort block).cost ≤ pcm_cost block.log2
 unfolding leaf_plan
-leaf_most prev now size effort x y log2 = best_most (skips prev now (leaf_with x y log2 Skip) ++ intra_plans size now x y log2 (modes_of effort)) (one_leaf (pcm_cost log2) (leaf_with x y log2 Pcm))
+leaf_most prev now size effort block = best_most (skips prev now (leaf_with block Skip) ++ intra_plans size now block (modes_of effort)) (one_leaf (pcm_cost block.log2) (leaf_with block Pcm))
 
 cheaper_most : (a b : Plan) (k : ℕ) → a.cost ≤ k → (cheaper a b).cost ≤ k
 cheaper_most a b k h = elim (cases_lt b.cost a.cost) [
@@ -178,13 +179,13 @@ most_step prev now size effort d low high pcm four each x y = go (is_inside size
         let e = each (x + 2 ^ (3 + d)) (y + 2 ^ (3 + d)) in
         omega arith
 
-    one : (cheaper (leaf_plan prev now size effort x y (4 + d)) (split_plan (plan prev now size effort d) (2 ^ (3 + d)) x y)).cost ≤ high
+    one : (cheaper (leaf_plan prev now size effort (block_at x y (4 + d))) (split_plan (plan prev now size effort d) (2 ^ (3 + d)) x y)).cost ≤ high
     one =
-        let l : (leaf_plan prev now size effort x y (4 + d)).cost ≤ high = (let m = leaf_most prev now size effort x y (4 + d) in omega arith) in
-        cheaper_most (leaf_plan prev now size effort x y (4 + d)) (split_plan (plan prev now size effort d) (2 ^ (3 + d)) x y) high l
+        let l : (leaf_plan prev now size effort (block_at x y (4 + d))).cost ≤ high = (let m = leaf_most prev now size effort (block_at x y (4 + d)) in omega arith) in
+        cheaper_most (leaf_plan prev now size effort (block_at x y (4 + d))) (split_plan (plan prev now size effort d) (2 ^ (3 + d)) x y) high l
 
     go : (i w : Bool) → (cond (not i) no_leaves (cond (not w) (split_plan (plan prev now size effort d) (2 ^ (3 + d)) x y)
-        (cheaper (leaf_plan prev now size effort x y (4 + d)) (split_plan (plan prev now size effort d) (2 ^ (3 + d)) x y)))).cost ≤ high
+        (cheaper (leaf_plan prev now size effort (block_at x y (4 + d))) (split_plan (plan prev now size effort d) (2 ^ (3 + d)) x y)))).cost ≤ high
     go false w = omega arith
     go true false = quarters
     go true true = one
@@ -193,8 +194,8 @@ most_8 : (prev : Option Picture) (now : Picture) (size : Size) (effort x y : ℕ
 unfolding pcm_cost
 most_8 prev now size effort x y = go (is_inside size x y)
   where
-    go : (i : Bool) → (cond i (leaf_plan prev now size effort x y 3) no_leaves).cost ≤ 1560
-    go true = let l = leaf_most prev now size effort x y 3 in omega arith
+    go : (i : Bool) → (cond i (leaf_plan prev now size effort (block_at x y 3)) no_leaves).cost ≤ 1560
+    go true = let l = leaf_most prev now size effort (block_at x y 3) in omega arith
     go false = omega arith
 
 pcm_16 : pcm_cost (4 + 0) ≤ 6241

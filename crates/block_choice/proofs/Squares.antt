@@ -5,7 +5,7 @@ use Rattle.std.proofs.lemmas.Bool.{and_parts, and_from, eqb-true, eq-eqb, false�
 use Rattle.std.proofs.lemmas.List.{get_or-set_same, get_or-set_other}
 use Rattle.h265_model.proofs.Squares.{same_places, at_places}
 use Rattle.h265_model.specs.declared.leaf.Kind.TheVariants.{Skip}
-use Rattle.h265_model.specs.Plain.{Size, Picture, coded, leaf_with}
+use Rattle.h265_model.specs.Plain.{block_at, Size, Picture, coded, leaf_with}
 use Rattle.h265_model.specs.Tree.{samples_in}
 use Rattle.h265_model.specs.Choice.{same, is_copy, skips, one_leaf}
 use Rattle.px_plane.specs.Blocks.{IsSameBlock}
@@ -28,31 +28,31 @@ same_is (x ∷ xs) (y ∷ ys) h =
 pub record IsSameIn (p q : Picture) (x y n : ℕ) : Type 0 where
   pub each : (c i j : ℕ) → c < 3 → i < n → j < n → p c (x + i) (y + j) ≡ q c (x + i) (y + j)
 
-copy_from : (p q : Picture) (x y log2 : ℕ) → IsSameIn p q x y (2 ^ log2) → is_copy p q (leaf_with x y log2 Skip) ≡ true
+copy_from : (p q : Picture) (x y log2 : ℕ) → IsSameIn p q x y (2 ^ log2) → is_copy p q (leaf_with (block_at x y log2) Skip) ≡ true
 unfolding is_copy
 copy_from p q x y log2 is =
     and_from _ _ (at 0 (omega arith)) (and_from _ _ (at 1 (omega arith)) (and_from _ _ (at 2 (omega arith)) refl))
   where
-    at : (c : ℕ) → c < 3 → same (samples_in p (leaf_with x y log2 Skip) c) (samples_in q (leaf_with x y log2 Skip) c) ≡ true
+    at : (c : ℕ) → c < 3 → same (samples_in p (leaf_with (block_at x y log2) Skip) c) (samples_in q (leaf_with (block_at x y log2) Skip) c) ≡ true
     at c h =
-        ap (λ (l : List ℕ). same l (samples_in q (leaf_with x y log2 Skip) c))
+        ap (λ (l : List ℕ). same l (samples_in q (leaf_with (block_at x y log2) Skip) c))
         (same_places (2 ^ log2) (2 ^ log2) (λ i j. p c (x + i) (y + j)) (λ i j. q c (x + i) (y + j)) (λ i j hi hj. is.each c i j h hi hj))
-        ∙ same_refl (samples_in q (leaf_with x y log2 Skip) c)
+        ∙ same_refl (samples_in q (leaf_with (block_at x y log2) Skip) c)
 
-from_copy : (p q : Picture) (x y log2 : ℕ) → is_copy p q (leaf_with x y log2 Skip) ≡ true → IsSameIn p q x y (2 ^ log2)
+from_copy : (p q : Picture) (x y log2 : ℕ) → is_copy p q (leaf_with (block_at x y log2) Skip) ≡ true → IsSameIn p q x y (2 ^ log2)
 unfolding is_copy
 from_copy p q x y log2 h = record { each = λ c i j hc hi hj. at c i j hc hi hj (list c hc) }
   where
     s : ℕ → Bool
-    s c = same (samples_in p (leaf_with x y log2 Skip) c) (samples_in q (leaf_with x y log2 Skip) c)
+    s c = same (samples_in p (leaf_with (block_at x y log2) Skip) c) (samples_in q (leaf_with (block_at x y log2) Skip) c)
 
-    list : (c : ℕ) → c < 3 → samples_in p (leaf_with x y log2 Skip) c ≡ samples_in q (leaf_with x y log2 Skip) c
+    list : (c : ℕ) → c < 3 → samples_in p (leaf_with (block_at x y log2) Skip) c ≡ samples_in q (leaf_with (block_at x y log2) Skip) c
     list zero hc = same_is _ _ (and_parts _ _ h).0
     list (suc zero) hc = same_is _ _ (and_parts _ _ (and_parts _ _ h).1).0
     list (suc (suc zero)) hc = same_is _ _ (and_parts _ _ (and_parts _ _ (and_parts _ _ h).1).1).0
     list (suc (suc (suc c))) hc = absurd (omega arith)
 
-    at : (c i j : ℕ) → c < 3 → i < 2 ^ log2 → j < 2 ^ log2 → samples_in p (leaf_with x y log2 Skip) c ≡ samples_in q (leaf_with x y log2 Skip) c → p c (x + i) (y + j) ≡ q c (x + i) (y + j)
+    at : (c i j : ℕ) → c < 3 → i < 2 ^ log2 → j < 2 ^ log2 → samples_in p (leaf_with (block_at x y log2) Skip) c ≡ samples_in q (leaf_with (block_at x y log2) Skip) c → p c (x + i) (y + j) ≡ q c (x + i) (y + j)
     at c i j hc hi hj e =
         sym (at_places (2 ^ log2) (2 ^ log2) i j (λ i j. p c (x + i) (y + j)) 0 hi hj)
         ∙ (ap (λ (l : List ℕ). get_or l (j * 2 ^ log2 + i) 0) e ∙ at_places (2 ^ log2) (2 ^ log2) i j (λ i j. q c (x + i) (y + j)) 0 hi hj)
@@ -91,7 +91,7 @@ same_squares copies p q size tx ty x y i j side n tells ex ey en hi hj hx hy is 
 -- the plans that copy
 pub skips_yes : (copies : List Bool) (has : Bool) (p q : Picture) (size : Size) (tx ty x y i j side log2 : ℕ) → TellsCopies copies has p q size tx ty
     → x ≡ tx + i * 8 → y ≡ ty + j * 8 → 2 ^ log2 ≡ side * 8 → 1 ≤ side → i + side ≤ 4 → j + side ≤ 4 → x + 2 ^ log2 ≤ coded size.w → y + 2 ^ log2 ≤ coded size.h
-    → AreAllCopied copies i j side side → skips (before has p) q (leaf_with x y log2 Skip) ≡ one_leaf 1 (leaf_with x y log2 Skip) ∷ []
+    → AreAllCopied copies i j side side → skips (before has p) q (leaf_with (block_at x y log2) Skip) ≡ one_leaf 1 (leaf_with (block_at x y log2) Skip) ∷ []
 skips_yes copies true p q size tx ty x y i j side log2 tells ex ey en some hi hj hx hy all =
     rw (copy_from p q x y log2 (squares_same copies p q size tx ty x y i j side (2 ^ log2) tells ex ey en hi hj hx hy all)) refl
 skips_yes copies false p q size tx ty x y i j side log2 tells ex ey en some hi hj hx hy all =
@@ -101,11 +101,11 @@ skips_yes copies false p q size tx ty x y i j side log2 tells ex ey en some hi h
 
 pub skips_no : (copies : List Bool) (has : Bool) (p q : Picture) (size : Size) (tx ty x y i j side log2 : ℕ) → TellsCopies copies has p q size tx ty
     → x ≡ tx + i * 8 → y ≡ ty + j * 8 → 2 ^ log2 ≡ side * 8 → i + side ≤ 4 → j + side ≤ 4 → x + 2 ^ log2 ≤ coded size.w → y + 2 ^ log2 ≤ coded size.h
-    → (AreAllCopied copies i j side side → ⊥) → skips (before has p) q (leaf_with x y log2 Skip) ≡ []
+    → (AreAllCopied copies i j side side → ⊥) → skips (before has p) q (leaf_with (block_at x y log2) Skip) ≡ []
 skips_no copies false p q size tx ty x y i j side log2 tells ex ey en hi hj hx hy none = refl
-skips_no copies true p q size tx ty x y i j side log2 tells ex ey en hi hj hx hy none = go (is_copy p q (leaf_with x y log2 Skip)) refl
+skips_no copies true p q size tx ty x y i j side log2 tells ex ey en hi hj hx hy none = go (is_copy p q (leaf_with (block_at x y log2) Skip)) refl
   where
-    go : (b : Bool) → is_copy p q (leaf_with x y log2 Skip) ≡ b → skips (Some p) q (leaf_with x y log2 Skip) ≡ []
+    go : (b : Bool) → is_copy p q (leaf_with (block_at x y log2) Skip) ≡ b → skips (Some p) q (leaf_with (block_at x y log2) Skip) ≡ []
     go true e = absurd (none (same_squares copies p q size tx ty x y i j side (2 ^ log2) tells ex ey en hi hj hx hy (from_copy p q x y log2 e)))
     go false e = rw e refl
 

@@ -1,9 +1,10 @@
 -- What is known of a coding tree unit while its coding units are chosen.
 use Rattle.std.specs.Prelude.{◌≡◌, ◌<◌, ◌≤◌, ◌↔◌, ℕ, ◌+◌, ◌*◌, ◌%◌, ◌/◌, ◌^◌, Bool, true, false, List, ◌++◌, map, slice_index_or, Option, Some, None, IsTrue}
+use Rattle.h265_model.specs.declared.block.CodingBlock.{CodingBlock}
 use Rattle.h265_model.specs.declared.leaf.Kind.TheVariants.{Intra}
 use Rattle.h265_model.specs.declared.leaf.Leaf.{Leaf}
 use Rattle.h265_model.specs.declared.rect.Rect.{Rect}
-use Rattle.h265_model.specs.Plain.{Size, Picture, coded, leaf_with, ctu_x, ctu_y}
+use Rattle.h265_model.specs.Plain.{Size, Picture, coded, side, leaf_with, ctu_x, ctu_y}
 use Rattle.h265_model.specs.Choice.{Plan, one_leaf, intra_cost}
 use Rattle.px_plane.specs.Planes.{picture_of}
 use Rattle.px_plane.specs.Blocks.{IsSameBlock}
@@ -49,27 +50,27 @@ pub record IsTask (t : Task) : Type 0 where
   pub whole_y : t.y % 32 ≡ 0
   pub copies : TellsCopies t.copies t.has_last (picture_of t.last.now) (picture_of t.current.now) t.current.now.size t.x t.y
 
--- a block of side 2 ^ (3 + depth) in the coding tree unit
-pub record IsPlace (t : Task) (depth x y : ℕ) : Type 0 where
-  pub left : t.x ≤ x
-  pub right : x + 2 ^ (3 + depth) ≤ t.x + 32
-  pub top : t.y ≤ y
-  pub bottom : y + 2 ^ (3 + depth) ≤ t.y + 32
-  pub whole_x : x % 2 ^ (3 + depth) ≡ 0
-  pub whole_y : y % 2 ^ (3 + depth) ≡ 0
+-- a block in the coding tree unit
+pub record IsPlace (t : Task) (block : CodingBlock) : Type 0 where
+  pub left : t.x ≤ block.x
+  pub right : block.x + side block ≤ t.x + 32
+  pub top : t.y ≤ block.y
+  pub bottom : block.y + side block ≤ t.y + 32
+  pub whole_x : block.x % side block ≡ 0
+  pub whole_y : block.y % side block ≡ 0
 
-abbrev pub intra_plans : Size → Picture → ℕ → ℕ → ℕ → List ℕ → List Plan
-intra_plans size now x y log2 modes = map (λ mode. one_leaf (intra_cost size now (leaf_with x y log2 (Intra mode))) (leaf_with x y log2 (Intra mode))) modes
+abbrev pub intra_plans : Size → Picture → CodingBlock → List ℕ → List Plan
+intra_plans size now block modes = map (λ mode. one_leaf (intra_cost size now (leaf_with block (Intra mode))) (leaf_with block (Intra mode))) modes
 
 -- a plan of one coding unit, where it costs less than the limit
-abbrev pub IsLeafPlan : Option Best → ℕ → ℕ → ℕ → ℕ → Plan → Type 0
-IsLeafPlan None limit x y log2 plan = limit ≤ plan.cost
-IsLeafPlan (Some b) limit x y log2 plan = (b.cost < limit) × (plan ≡ one_leaf b.cost (leaf_with x y log2 b.kind))
+abbrev pub IsLeafPlan : Option Best → ℕ → CodingBlock → Plan → Type 0
+IsLeafPlan None limit block plan = limit ≤ plan.cost
+IsLeafPlan (Some b) limit block plan = (b.cost < limit) × (plan ≡ one_leaf b.cost (leaf_with block b.kind))
 
 -- the same of a block that may go beyond the coded picture, where there is none
-abbrev pub IsWholeLeaf : Option Best → ℕ → ℕ → ℕ → ℕ → Bool → Plan → Type 0
-IsWholeLeaf None limit x y depth whole plan = whole ≡ true → limit ≤ plan.cost
-IsWholeLeaf (Some b) limit x y depth whole plan = (whole ≡ true) × (b.cost < limit) × (plan ≡ one_leaf b.cost (leaf_with x y (3 + depth) b.kind))
+abbrev pub IsWholeLeaf : Option Best → ℕ → CodingBlock → Bool → Plan → Type 0
+IsWholeLeaf None limit block whole plan = whole ≡ true → limit ≤ plan.cost
+IsWholeLeaf (Some b) limit block whole plan = (whole ≡ true) × (b.cost < limit) × (plan ≡ one_leaf b.cost (leaf_with block b.kind))
 
 -- a plan's coding units are added where they cost less than the limit
 abbrev pub IsPlanned : Option ℕ → ℕ → Plan → List Leaf → List Leaf → Type 0

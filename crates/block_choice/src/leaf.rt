@@ -1,6 +1,6 @@
 //! The cheapest coding unit of a whole block.
 ghost use Rattle.std.specs.Prelude.{◌≡◌, ℕ, ◌+◌, ◌*◌, ◌-◌, ◌/◌, ◌%◌, ◌<◌, ◌≤◌, ◌^◌, map, true};
-ghost use Rattle.h265_model.specs.Plain.{coded, leaf_with};
+ghost use Rattle.h265_model.specs.Plain.{coded, leaf_with, side};
 ghost use Rattle.h265_model.specs.Choice.{best_of, one_leaf, pcm_cost, leaf_plan, modes_of};
 ghost use Rattle.h265_model.specs.Tree.{is_whole};
 ghost use Rattle.h265_model.specs.declared.leaf.Kind.TheVariants.{Pcm};
@@ -9,7 +9,7 @@ ghost use Rattle.block_choice.specs.Plans.{IsTask, IsPlace, intra_plans, IsLeafP
 
 use crate::copies::is_copied;
 use crate::modes::modes_for;
-use h265_model::Kind;
+use h265_model::{CodingBlock, Kind};
 use leaf_cost::{Best, best_mode};
 use px_plane::Picture;
 
@@ -26,7 +26,7 @@ pub(crate) struct Task<'a> {
 }
 
 /// The side of a block.
-pub(crate) fn side(log2: u32) -> u32
+pub(crate) fn side_of(log2: u32) -> u32
     requires low { 3 ≤ log2 }
     requires high { log2 ≤ 5 }
     ensures value { result ≡ 2 ^ log2 }
@@ -41,20 +41,20 @@ pub(crate) fn side(log2: u32) -> u32
 }
 
 // The cheapest of the modes and PCM, where it costs less than `limit`.
-fn coded_leaf(now: &Picture, effort: u32, x: u32, y: u32, log2: u32, limit: u32) -> Option<Best>
+fn coded_leaf(now: &Picture, effort: u32, block: CodingBlock, limit: u32) -> Option<Best>
     requires effort { effort ≤ 2 }
-    requires low { 3 ≤ log2 }
-    requires high { log2 ≤ 5 }
-    requires whole_x { x % 2 ^ log2 ≡ 0 }
-    requires whole_y { y % 2 ^ log2 ≡ 0 }
-    requires across { x + 2 ^ log2 ≤ coded now.now.size.w }
-    requires down { y + 2 ^ log2 ≤ coded now.now.size.h }
-    ensures { IsLeafPlan result limit x y log2
-        (best_of (intra_plans now.now.size (picture_of now.now) x y log2 (modes_of effort)) (one_leaf (pcm_cost log2) (leaf_with x y log2 Pcm))) }
+    requires low { 3 ≤ block.log2 }
+    requires high { block.log2 ≤ 5 }
+    requires whole_x { block.x % side block ≡ 0 }
+    requires whole_y { block.y % side block ≡ 0 }
+    requires across { block.x + side block ≤ coded now.now.size.w }
+    requires down { block.y + side block ≤ coded now.now.size.h }
+    ensures { IsLeafPlan result limit block
+        (best_of (intra_plans now.now.size (picture_of now.now) block (modes_of effort)) (one_leaf (pcm_cost block.log2) (leaf_with block Pcm))) }
 {
-    let n = side(log2);
+    let n = side_of(block.log2);
     let pcm = 24 + 24 * n * n;
-    if let Some(best) = best_mode(now, x, y, log2, modes_for(effort), limit.min(pcm + 1)) {
+    if let Some(best) = best_mode(now, block, modes_for(effort), limit.min(pcm + 1)) {
         return Some(best);
     }
     if pcm < limit {
@@ -67,14 +67,16 @@ fn coded_leaf(now: &Picture, effort: u32, x: u32, y: u32, log2: u32, limit: u32)
 }
 
 /// The cheapest coding unit of a block, where the block lies wholly in the coded picture and it costs less than `limit`.
-pub(crate) fn whole_leaf(task: &Task, depth: u32, x: u32, y: u32, limit: u32) -> Option<Best>
+pub(crate) fn whole_leaf(task: &Task, block: CodingBlock, limit: u32) -> Option<Best>
     requires task { IsTask task.now }
-    requires depth { depth ≤ 2 }
-    requires place { IsPlace task.now depth x y }
-    ensures { IsWholeLeaf result limit x y depth (is_whole task.now.current.now.size (2 ^ (3 + depth)) x y)
-        (leaf_plan (before_of task.now) (picture_of task.now.current.now) task.now.current.now.size task.now.effort x y (3 + depth)) }
+    requires low { 3 ≤ block.log2 }
+    requires high { block.log2 ≤ 5 }
+    requires place { IsPlace task.now block }
+    ensures { IsWholeLeaf result limit block (is_whole task.now.current.now.size (side block) block.x block.y)
+        (leaf_plan (before_of task.now) (picture_of task.now.current.now) task.now.current.now.size task.now.effort block) }
 {
-    let n = side(3 + depth);
+    let (x, y) = (block.x, block.y);
+    let n = side_of(block.log2);
     let size = task.current.size();
     if x + n > (size.w() + 7) / 8 * 8 || y + n > (size.h() + 7) / 8 * 8 {
         return None;
@@ -90,5 +92,5 @@ pub(crate) fn whole_leaf(task: &Task, depth: u32, x: u32, y: u32, limit: u32) ->
             None
         };
     }
-    coded_leaf(task.current, task.effort, x, y, 3 + depth, limit)
+    coded_leaf(task.current, task.effort, block, limit)
 }

@@ -1,14 +1,15 @@
 //! The cheapest coding units of a block: one, or those of its quarters.
 ghost use Rattle.std.specs.Prelude.{◌≡◌, ℕ, ◌+◌, ◌*◌, ◌^◌, ◌<◌, ◌≤◌};
 ghost use Rattle.arrayvec.specs.ArrayVec.{array_vec_len};
+ghost use Rattle.h265_model.specs.Plain.{block_at};
 ghost use Rattle.h265_model.specs.Choice.{plan, split_plan};
 ghost use Rattle.h265_model.specs.Predict.{is_inside};
 ghost use Rattle.px_plane.specs.Planes.{picture_of};
 ghost use Rattle.block_choice.specs.Plans.{IsTask, IsPlace, IsPlanned, before_of};
 
-use crate::leaf::{Task, side, whole_leaf};
+use crate::leaf::{Task, side_of, whole_leaf};
 use bin_items::Leaves;
-use h265_model::Leaf;
+use h265_model::{CodingBlock, Leaf};
 
 // Whether a place is in the coded picture.
 fn is_inside(task: &Task, x: u32, y: u32) -> bool
@@ -30,14 +31,14 @@ fn plan_split(
 ) -> Option<u32>
     requires task { IsTask task.now }
     requires depth { depth ≤ 1 }
-    requires place { IsPlace task.now (depth + 1) x y }
+    requires place { IsPlace task.now (block_at x y (3 + (depth + 1))) }
     requires room { array_vec_len leaves.old + 4 * 4 ^ depth ≤ 16 }
     ensures planned { IsPlanned result limit
         (split_plan (plan (before_of task.now) (picture_of task.now.current.now) task.now.current.now.size task.now.effort depth) (2 ^ (3 + depth)) x y)
         leaves.old.items leaves.new.items }
     ensures few { array_vec_len leaves.new ≤ array_vec_len leaves.old + 4 * 4 ^ depth }
 {
-    let half = side(3 + depth);
+    let half = side_of(3 + depth);
     let mark = leaves.len();
     let mut cost = 1;
     for quarter in 0..4u32 {
@@ -65,7 +66,7 @@ pub(crate) fn plan_block(
 ) -> Option<u32>
     requires task { IsTask task.now }
     requires depth { depth ≤ 2 }
-    requires place { IsPlace task.now depth x y }
+    requires place { IsPlace task.now (block_at x y (3 + depth)) }
     requires room { array_vec_len leaves.old + 4 ^ depth ≤ 16 }
     ensures planned { IsPlanned result limit
         (plan (before_of task.now) (picture_of task.now.current.now) task.now.current.now.size task.now.effort depth x y)
@@ -75,7 +76,12 @@ pub(crate) fn plan_block(
     if !is_inside(task, x, y) {
         return if limit > 0 { Some(0) } else { None };
     }
-    let leaf = whole_leaf(task, depth, x, y, limit);
+    let block = CodingBlock {
+        x,
+        y,
+        log2: 3 + depth,
+    };
+    let leaf = whole_leaf(task, block, limit);
     let bound = match leaf {
         Some(best) => best.cost,
         None => limit,
@@ -87,9 +93,7 @@ pub(crate) fn plan_block(
     }
     let best = leaf?;
     leaves.push(Leaf {
-        x,
-        y,
-        log2: 3 + depth,
+        block,
         kind: best.kind,
     });
     Some(best.cost)

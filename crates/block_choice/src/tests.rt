@@ -62,7 +62,7 @@ fn digest_after(before: u32, leaves: &[Leaf]) -> u32 {
             Kind::Pcm => 101,
             Kind::Intra(mode) => mode,
         };
-        for value in [leaf.x, leaf.y, leaf.log2, kind] {
+        for value in [leaf.block.x, leaf.block.y, leaf.block.log2, kind] {
             digest = digest.wrapping_mul(31).wrapping_add(value);
         }
     }

@@ -7,7 +7,7 @@ use Rattle.std.proofs.Math.Pow.{pow_mono}
 use Rattle.std.proofs.lemmas.List.{map-set, take_all, length-drop}
 use Rattle.std.proofs.lemmas.Bool.{lt-ltb}
 use Rattle.h265_model.specs.declared.leaf.Leaf.{Leaf}
-use Rattle.h265_model.specs.Plain.{Size, coded}
+use Rattle.h265_model.specs.Plain.{block_at, Size, coded}
 use Rattle.h265_model.specs.Residual.{AreLevels}
 use Rattle.h265_model.specs.Predict.{is_inside}
 use Rattle.h265_model.specs.Tree.{Source, is_whole, IsCodingUnit, AreQuarters, IsTree}
@@ -59,21 +59,21 @@ one_set zeros block l log2 x y value v e f g h =
     ∙ ap (λ (w : ℤ). record { log2 = log2; levels = set (replicate (area log2) (pos 0)) (place log2 x y) w }) g))
 
 pub one_level : (source : Source) (leaf : Leaf) (component i v : ℕ) (block : Square) → v ≤ 255
-    → block ≡ record { log2 = leaf.log2; levels = set (replicate (area leaf.log2) (pos 0)) i (pos v) }
-    → source.levels leaf component ≡ set (replicate (area leaf.log2) (pos 0)) i (pos v) → HasLevels source leaf component block
+    → block ≡ record { log2 = leaf.block.log2; levels = set (replicate (area leaf.block.log2) (pos 0)) i (pos v) }
+    → source.levels leaf component ≡ set (replicate (area leaf.block.log2) (pos 0)) i (pos v) → HasLevels source leaf component block
 one_level source leaf component i v block h e f = record {
   side = ap (λ (b : Square). b.log2) e;
   levels = ap (λ (b : Square). b.levels) e ∙ sym f;
-  fit = subst AreLevels (sym (ap (λ (b : Square). b.levels) e)) (set_level (replicate (area leaf.log2) (pos 0)) i v h (zero_levels (area leaf.log2)));
+  fit = subst AreLevels (sym (ap (λ (b : Square). b.levels) e)) (set_level (replicate (area leaf.block.log2) (pos 0)) i v h (zero_levels (area leaf.block.log2)));
 }
 
 pub one_sample : (source : Source) (leaf : Leaf) (component i v : ℕ) (block : Square) → v < 256
-    → block ≡ record { log2 = leaf.log2; levels = set (replicate (area leaf.log2) (pos 0)) i (pos v) }
-    → source.samples leaf component ≡ set (replicate (area leaf.log2) 0) i v → HasSamples source leaf component block
+    → block ≡ record { log2 = leaf.block.log2; levels = set (replicate (area leaf.block.log2) (pos 0)) i (pos v) }
+    → source.samples leaf component ≡ set (replicate (area leaf.block.log2) 0) i v → HasSamples source leaf component block
 one_sample source leaf component i v block h e f = record {
   side = ap (λ (b : Square). b.log2) e;
-  samples = ap (λ (b : Square). b.levels) e ∙ (sample_as_level (area leaf.log2) i v ∙ ap (map pos) (sym f));
-  fit = subst (AllByRecursion (λ x. x < 256)) (sym f) (set_sample (replicate (area leaf.log2) 0) i v h (zero_samples (area leaf.log2)));
+  samples = ap (λ (b : Square). b.levels) e ∙ (sample_as_level (area leaf.block.log2) i v ∙ ap (map pos) (sym f));
+  fit = subst (AllByRecursion (λ x. x < 256)) (sym f) (set_sample (replicate (area leaf.block.log2) 0) i v h (zero_samples (area leaf.block.log2)));
 }
 
 -- ---- trees
@@ -138,25 +138,25 @@ quarters_tree size (suc depth) x y half leaves a b c d h e across down p q r s =
     }
 
     go : (i : Bool) → i ≡ true → (w : Bool) → AreQuarters (IsTree size depth) (2 ^ (3 + depth)) x y list
-        → MatchBool i (MatchBool w (IsCodingUnit x y (4 + depth) list ⊎ AreQuarters (IsTree size depth) (2 ^ (3 + depth)) x y list) (AreQuarters (IsTree size depth) (2 ^ (3 + depth)) x y list)) (list ≡ [])
+        → MatchBool i (MatchBool w (IsCodingUnit (block_at x y (4 + depth)) list ⊎ AreQuarters (IsTree size depth) (2 ^ (3 + depth)) x y list) (AreQuarters (IsTree size depth) (2 ^ (3 + depth)) x y list)) (list ≡ [])
     go true g true t = inr t
     go true g false t = t
     go false g w t = absurd (cc)
 
 pub unit_tree : (size : Size) (depth x y : ℕ) (leaves : List Leaf) → depth ≤ 2 → x < coded size.w → y < coded size.h → is_whole size (2 ^ (3 + depth)) x y ≡ true
-    → IsCodingUnit x y (3 + depth) leaves → IsTree size depth x y leaves
+    → IsCodingUnit (block_at x y (3 + depth)) leaves → IsTree size depth x y leaves
 unit_tree size zero x y leaves h across down whole unit = go (is_inside size x y) (inside size x y across down)
   where
-    go : (i : Bool) → i ≡ true → MatchBool i (IsCodingUnit x y 3 leaves) (leaves ≡ [])
+    go : (i : Bool) → i ≡ true → MatchBool i (IsCodingUnit (block_at x y 3) leaves) (leaves ≡ [])
     go true g = unit
     go false g = absurd (cc)
 unit_tree size (suc depth) x y leaves h across down whole unit =
     let k : HasHalf depth (2 ^ (4 + depth)) (2 ^ (3 + depth)) = has_half depth (omega arith) in
     go (is_inside size x y) (inside size x y across down) (is_whole size (2 * 2 ^ (3 + depth)) x y)
-    (ap (λ s. is_whole size s x y) (k.double ∙ sym k.whole) ∙ whole) (subst (λ n. IsCodingUnit x y n leaves) k.log2 unit)
+    (ap (λ s. is_whole size s x y) (k.double ∙ sym k.whole) ∙ whole) (subst (λ n. IsCodingUnit (block_at x y n) leaves) k.log2 unit)
   where
-    go : (i : Bool) → i ≡ true → (w : Bool) → w ≡ true → IsCodingUnit x y (4 + depth) leaves
-        → MatchBool i (MatchBool w (IsCodingUnit x y (4 + depth) leaves ⊎ AreQuarters (IsTree size depth) (2 ^ (3 + depth)) x y leaves) (AreQuarters (IsTree size depth) (2 ^ (3 + depth)) x y leaves)) (leaves ≡ [])
+    go : (i : Bool) → i ≡ true → (w : Bool) → w ≡ true → IsCodingUnit (block_at x y (4 + depth)) leaves
+        → MatchBool i (MatchBool w (IsCodingUnit (block_at x y (4 + depth)) leaves ⊎ AreQuarters (IsTree size depth) (2 ^ (3 + depth)) x y leaves) (AreQuarters (IsTree size depth) (2 ^ (3 + depth)) x y leaves)) (leaves ≡ [])
     go true g true e t = inl t
     go true g false e t = absurd (cc)
     go false g w e t = absurd (cc)

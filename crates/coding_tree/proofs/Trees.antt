@@ -5,7 +5,7 @@ use Rattle.std.specs.List.{AllByRecursion}
 use Rattle.std.proofs.lemmas.Bool.{and_parts, ltb-true, leb-true}
 use Rattle.h265_model.specs.declared.leaf.Leaf.{Leaf}
 use Rattle.h265_model.specs.declared.leaf.Kind.{Kind}
-use Rattle.h265_model.specs.Plain.{Size, coded, leaf_with, ctu_x, ctu_y}
+use Rattle.h265_model.specs.Plain.{block_at, Size, coded, leaf_with, ctu_x, ctu_y}
 use Rattle.h265_model.specs.Predict.{is_inside}
 use Rattle.h265_model.specs.Tree.{is_whole, IsCodingUnit, AreQuarters, IsTree, IsMode, IsLawfulTree}
 use Rattle.h265_model.proofs.ListParts.{all_append}
@@ -73,7 +73,7 @@ all_each T U (x ∷ list) f h = (f x h.0, all_each T U list f h.1)
 small_side : (side n : ℕ) → n % 8 ≡ 0 → n < coded side → n + 8 ≤ coded side
 small_side side n e h = omega arith
 
-small_unit : (size : Size) (x y : ℕ) (kind : Kind) → IsMode kind → IsCorner 8 x y → is_inside size x y ≡ true → IsUnit size (leaf_with x y 3 kind)
+small_unit : (size : Size) (x y : ℕ) (kind : Kind) → IsMode kind → IsCorner 8 x y → is_inside size x y ≡ true → IsUnit size (leaf_with (block_at x y 3) kind)
 small_unit size x y kind mode c inside =
     let p : (nat_lt x (coded size.w) ≡ true) × (nat_lt y (coded size.h) ≡ true) = and_parts _ _ inside in
     record {
@@ -87,7 +87,7 @@ small_unit size x y kind mode c inside =
     }
 
 large_unit : (size : Size) (depth x y : ℕ) (kind : Kind) → depth < 2 → IsMode kind → IsCorner (2 ^ (4 + depth)) x y → is_whole size (2 * 2 ^ (3 + depth)) x y ≡ true
-    → IsUnit size (leaf_with x y (4 + depth) kind)
+    → IsUnit size (leaf_with (block_at x y (4 + depth)) kind)
 large_unit size depth x y kind h mode c whole =
     let p : (nat_le (x + 2 * 2 ^ (3 + depth)) (coded size.w) ≡ true) × (nat_le (y + 2 * 2 ^ (3 + depth)) (coded size.h) ≡ true) = and_parts _ _ whole in
     let double : 2 * 2 ^ (3 + depth) ≡ 2 ^ (4 + depth) = (has_half depth h).double in
@@ -105,7 +105,7 @@ large_unit size depth x y kind h mode c whole =
 pub tree_units : (size : Size) (depth x y : ℕ) (leaves : List Leaf) → depth < 3 → IsCorner (2 ^ (3 + depth)) x y → IsTree size depth x y leaves → AllByRecursion (IsUnit size) leaves
 tree_units size zero x y leaves h c t = go (is_inside size x y) refl t
   where
-    go : (b : Bool) → is_inside size x y ≡ b → MatchBool b (IsCodingUnit x y 3 leaves) (leaves ≡ []) → AllByRecursion (IsUnit size) leaves
+    go : (b : Bool) → is_inside size x y ≡ b → MatchBool b (IsCodingUnit (block_at x y 3) leaves) (leaves ≡ []) → AllByRecursion (IsUnit size) leaves
     go true e u = subst (AllByRecursion (IsUnit size)) (sym u.one) (small_unit size x y u.kind u.mode c e, tt)
     go false e none = subst (AllByRecursion (IsUnit size)) (sym none) tt
 tree_units size (suc depth) x y leaves h c t =
@@ -129,10 +129,10 @@ tree_units size (suc depth) x y leaves h c t =
         (lower _ _ _ k.bottom_left q.bottom_left)) (lower _ _ _ k.bottom_right q.bottom_right))
 
     go : depth < 2 → IsCorner (2 ^ (4 + depth)) x y → (a b : Bool) → is_whole size (2 * half) x y ≡ b
-        → MatchBool a (MatchBool b (IsCodingUnit x y (4 + depth) leaves ⊎ AreQuarters (IsTree size depth) half x y leaves) (AreQuarters (IsTree size depth) half x y leaves)) (leaves ≡ [])
+        → MatchBool a (MatchBool b (IsCodingUnit (block_at x y (4 + depth)) leaves ⊎ AreQuarters (IsTree size depth) half x y leaves) (AreQuarters (IsTree size depth) half x y leaves)) (leaves ≡ [])
         → Lower → All leaves
     go small k true true e u lower = ⊎_elim
-        (λ (v : IsCodingUnit x y (4 + depth) leaves). subst All (sym v.one) (large_unit size depth x y v.kind small v.mode k e, tt))
+        (λ (v : IsCodingUnit (block_at x y (4 + depth)) leaves). subst All (sym v.one) (large_unit size depth x y v.kind small v.mode k e, tt))
         (λ (q : AreQuarters (IsTree size depth) half x y leaves). four (corners depth x y small k) q lower) u
     go small k true false e q lower = four (corners depth x y small k) q lower
     go small k false b e none lower = subst All (sym none) tt
@@ -141,41 +141,41 @@ tree_units size (suc depth) x y leaves h c t =
 
 -- a leaf begins within a square
 pub record IsWithin (side x y : ℕ) (leaf : Leaf) : Type 0 where
-  pub left : x ≤ leaf.x
-  pub right : leaf.x < x + side
-  pub top : y ≤ leaf.y
-  pub bottom : leaf.y < y + side
+  pub left : x ≤ leaf.block.x
+  pub right : leaf.block.x < x + side
+  pub top : y ≤ leaf.block.y
+  pub bottom : leaf.block.y < y + side
 
 -- and not at its corner
 pub record IsLater (side x y : ℕ) (leaf : Leaf) : Type 0 where
   pub within : IsWithin side x y leaf
-  pub after : x + y < leaf.x + leaf.y
+  pub after : x + y < leaf.block.x + leaf.block.y
 
 widened : (side half x y px py : ℕ) → side ≡ half + half → x ≤ px → px ≤ x + half → y ≤ py → py ≤ y + half → (leaf : Leaf) → IsWithin half px py leaf → IsWithin side x y leaf
 widened side half x y px py e a b c d leaf w =
-    let l : px ≤ leaf.x = w.left in
-    let r : leaf.x < px + half = w.right in
-    let t : py ≤ leaf.y = w.top in
-    let m : leaf.y < py + half = w.bottom in
+    let l : px ≤ leaf.block.x = w.left in
+    let r : leaf.block.x < px + half = w.right in
+    let t : py ≤ leaf.block.y = w.top in
+    let m : leaf.block.y < py + half = w.bottom in
     record { left = omega arith; right = omega arith; top = omega arith; bottom = omega arith }
 
 later : (side half x y px py : ℕ) → side ≡ half + half → x ≤ px → px ≤ x + half → y ≤ py → py ≤ y + half → x + y < px + py → (leaf : Leaf) → IsWithin half px py leaf → IsLater side x y leaf
 later side half x y px py e a b c d more leaf w =
-    let l : px ≤ leaf.x = w.left in
-    let t : py ≤ leaf.y = w.top in
+    let l : px ≤ leaf.block.x = w.left in
+    let t : py ≤ leaf.block.y = w.top in
     record { within = widened side half x y px py e a b c d leaf w; after = omega arith }
 
 still_later : (side half x y : ℕ) → side ≡ half + half → (leaf : Leaf) → IsLater half x y leaf → IsLater side x y leaf
 still_later side half x y e leaf l = record { within = widened side half x y x y e (omega arith) (omega arith) (omega arith) (omega arith) leaf l.within; after = l.after }
 
-at_corner : (side x y log2 : ℕ) (kind : Kind) → 0 < side → IsWithin side x y (leaf_with x y log2 kind)
+at_corner : (side x y log2 : ℕ) (kind : Kind) → 0 < side → IsWithin side x y (leaf_with (block_at x y log2) kind)
 at_corner side x y log2 kind h = record { left = omega arith; right = omega arith; top = omega arith; bottom = omega arith }
 
 -- the leaves of a tree begin within its block
 pub tree_within : (size : Size) (depth x y : ℕ) (leaves : List Leaf) → depth < 3 → IsTree size depth x y leaves → AllByRecursion (IsWithin (2 ^ (3 + depth)) x y) leaves
 tree_within size zero x y leaves h t = go (is_inside size x y) t
   where
-    go : (b : Bool) → MatchBool b (IsCodingUnit x y 3 leaves) (leaves ≡ []) → AllByRecursion (IsWithin 8 x y) leaves
+    go : (b : Bool) → MatchBool b (IsCodingUnit (block_at x y 3) leaves) (leaves ≡ []) → AllByRecursion (IsWithin 8 x y) leaves
     go true u = subst (AllByRecursion (IsWithin 8 x y)) (sym u.one) (at_corner 8 x y 3 u.kind (omega arith), tt)
     go false none = subst (AllByRecursion (IsWithin 8 x y)) (sym none) tt
 tree_within size (suc depth) x y leaves h t =
@@ -207,10 +207,10 @@ tree_within size (suc depth) x y leaves h t =
         (all_each (IsWithin half (x + half) (y + half)) (IsWithin side x y) _ (widened side half x y (x + half) (y + half) e (omega arith) (omega arith) (omega arith) (omega arith)) (lower _ _ _ q.bottom_right)))
 
     go : side ≡ half + half → 0 < half → (a b : Bool)
-        → MatchBool a (MatchBool b (IsCodingUnit x y (4 + depth) leaves ⊎ AreQuarters (IsTree size depth) half x y leaves) (AreQuarters (IsTree size depth) half x y leaves)) (leaves ≡ [])
+        → MatchBool a (MatchBool b (IsCodingUnit (block_at x y (4 + depth)) leaves ⊎ AreQuarters (IsTree size depth) half x y leaves) (AreQuarters (IsTree size depth) half x y leaves)) (leaves ≡ [])
         → Lower → All leaves
     go e s true true u lower = ⊎_elim
-        (λ (v : IsCodingUnit x y (4 + depth) leaves). subst All (sym v.one) (at_corner side x y (4 + depth) v.kind (omega arith), tt))
+        (λ (v : IsCodingUnit (block_at x y (4 + depth)) leaves). subst All (sym v.one) (at_corner side x y (4 + depth) v.kind (omega arith), tt))
         (λ (q : AreQuarters (IsTree size depth) half x y leaves). four e q lower) u
     go e s true false q lower = four e q lower
     go e s false b none lower = subst All (sym none) tt
@@ -220,16 +220,16 @@ pub record IsBlock (side log2 x y : ℕ) (leaves : List Leaf) : Type 0 where
   pub first : Leaf
   pub more : List Leaf
   pub is : leaves ≡ first ∷ more
-  pub small : first.log2 ≤ log2
-  pub column : first.x ≡ x
-  pub row : first.y ≡ y
+  pub small : first.block.log2 ≤ log2
+  pub column : first.block.x ≡ x
+  pub row : first.block.y ≡ y
   pub others : AllByRecursion (IsLater side x y) more
 
 pub tree_block : (size : Size) (depth x y : ℕ) (leaves : List Leaf) → depth < 3 → IsTree size depth x y leaves → is_inside size x y ≡ true → IsBlock (2 ^ (3 + depth)) (3 + depth) x y leaves
 tree_block size zero x y leaves h t inside = go (is_inside size x y) inside t
   where
-    go : (b : Bool) → b ≡ true → MatchBool b (IsCodingUnit x y 3 leaves) (leaves ≡ []) → IsBlock 8 3 x y leaves
-    go true e u = record { first = leaf_with x y 3 u.kind; more = []; is = u.one; small = omega arith; column = refl; row = refl; others = tt }
+    go : (b : Bool) → b ≡ true → MatchBool b (IsCodingUnit (block_at x y 3) leaves) (leaves ≡ []) → IsBlock 8 3 x y leaves
+    go true e u = record { first = leaf_with (block_at x y 3) u.kind; more = []; is = u.one; small = omega arith; column = refl; row = refl; others = tt }
     go false e u = absurd (cc)
 tree_block size (suc depth) x y leaves h t inside =
     let small : depth < 2 = omega arith in
@@ -256,7 +256,7 @@ tree_block size (suc depth) x y leaves h t inside =
           first = b.first;
           more = ((b.more ++ q.second) ++ q.third) ++ q.fourth;
           is = q.together ∙ ap (λ (l : List Leaf). ((l ++ q.second) ++ q.third) ++ q.fourth) b.is;
-          small = let small : b.first.log2 ≤ 3 + depth = b.small in omega arith;
+          small = let small : b.first.block.log2 ≤ 3 + depth = b.small in omega arith;
           column = b.column;
           row = b.row;
           others =
@@ -270,10 +270,10 @@ tree_block size (suc depth) x y leaves h t inside =
         }
 
     go : side ≡ half + half → 0 < half → (a : Bool) → a ≡ true → (b : Bool)
-        → MatchBool a (MatchBool b (IsCodingUnit x y (4 + depth) leaves ⊎ AreQuarters (IsTree size depth) half x y leaves) (AreQuarters (IsTree size depth) half x y leaves)) (leaves ≡ [])
+        → MatchBool a (MatchBool b (IsCodingUnit (block_at x y (4 + depth)) leaves ⊎ AreQuarters (IsTree size depth) half x y leaves) (AreQuarters (IsTree size depth) half x y leaves)) (leaves ≡ [])
         → First → Within → IsBlock side (3 + suc depth) x y leaves
     go e s true i true u f w = ⊎_elim
-        (λ (v : IsCodingUnit x y (4 + depth) leaves). record { first = leaf_with x y (4 + depth) v.kind; more = []; is = v.one; small = omega arith; column = refl; row = refl; others = tt })
+        (λ (v : IsCodingUnit (block_at x y (4 + depth)) leaves). record { first = leaf_with (block_at x y (4 + depth)) v.kind; more = []; is = v.one; small = omega arith; column = refl; row = refl; others = tt })
         (λ (q : AreQuarters (IsTree size depth) half x y leaves). four e s q f w) u
     go e s true i false q f w = four e s q f w
     go e s false i b u f w = absurd (cc)

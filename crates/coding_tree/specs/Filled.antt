@@ -8,13 +8,13 @@ use Rattle.bin_items.specs.Square.{Square}
 
 -- the block has the levels of this leaf and component
 pub record HasLevels (source : Source) (leaf : Leaf) (component : ℕ) (block : Square) : Type 0 where
-  pub side : block.log2 ≡ leaf.log2
+  pub side : block.log2 ≡ leaf.block.log2
   pub levels : block.levels ≡ source.levels leaf component
   pub fit : AreLevels block.levels
 
 -- the block has the samples of this leaf and component
 pub record HasSamples (source : Source) (leaf : Leaf) (component : ℕ) (block : Square) : Type 0 where
-  pub side : block.log2 ≡ leaf.log2
+  pub side : block.log2 ≡ leaf.block.log2
   pub samples : block.levels ≡ map pos (source.samples leaf component)
   pub fit : AllByRecursion (λ x. x < 256) (source.samples leaf component)
 

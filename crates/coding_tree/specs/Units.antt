@@ -15,7 +15,7 @@ part_items log2 = if log2 == 3 then context_bin true part_mode ∷ [] else []
 
 -- what follows cu_skip_flag in a unit that is no copy, and in any
 abbrev pub coded_items : SliceKind → Source → List Leaf → Leaf → List Item
-coded_items kind source before leaf = in_P kind (context_bin true pred_mode_flag ∷ []) ++ (part_items leaf.log2 ++ content_items source before leaf leaf.kind)
+coded_items kind source before leaf = in_P kind (context_bin true pred_mode_flag ∷ []) ++ (part_items leaf.block.log2 ++ content_items source before leaf leaf.kind)
 
 abbrev pub rest_items : SliceKind → Source → List Leaf → Leaf → List Item
 rest_items kind source before leaf = if is_skipped leaf.kind then [] else coded_items kind source before leaf

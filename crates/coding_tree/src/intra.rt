@@ -15,6 +15,7 @@ ghost use Rattle.coding_tree.specs.Units.{coded_flags, block_items};
 use crate::flag::write_flag;
 use crate::source::LevelSource;
 use bin_items::{Bin, BinSink, Block, Leaf, NoMemory, Place};
+use h265_model::syntax_elements::{CBF_CB, CBF_CR, CBF_LUMA, INTRA_CHROMA_PRED_MODE};
 use pu_code::{Grid, write_mode};
 use residual_code::{cbf, write_residual};
 use scan_orders::scan_kind;
@@ -22,13 +23,13 @@ use scan_orders::scan_kind;
 // The levels of a component.
 #[inline(always)]
 fn levels_of<V: LevelSource>(source: &mut V, leaf: Leaf, component: u32) -> Block
-    requires low { 3 ≤ leaf.log2 }
-    requires high { leaf.log2 ≤ 5 }
+    requires low { 3 ≤ leaf.block.log2 }
+    requires high { leaf.block.log2 ≤ 5 }
     requires component { component < 3 }
     ensures levels { HasLevels (V.source source.old) leaf component result }
     ensures kept { V.source source.new ≡ V.source source.old }
 {
-    let mut block = Block::zero(leaf.log2);
+    let mut block = Block::zero(leaf.block.log2);
     source.levels(leaf, component, &mut block);
     block
 }
@@ -44,14 +45,14 @@ fn write_prediction<S: BinSink>(
     requires mode { mode < 35 }
     requires not_ended { IsOpen (S.phase sink.old) }
     ensures taken { (before : List TheLeaf) → StandsFor grid.now before →
-        Writes (terminate_bin false ∷ mode_items mode (candidates_at before leaf.x leaf.y)) (S.stands_for sink.old) (S.stands_for sink.new) result }
+        Writes (terminate_bin false ∷ mode_items mode (candidates_at before leaf.block.x leaf.block.y)) (S.stands_for sink.old) (S.stands_for sink.new) result }
     ensures not_ended { IsOpen (S.phase sink.new) }
 {
     sink.bin(Bin {
         value: false,
         place: Place::Terminate,
     })?;
-    write_mode(sink, mode, &grid.candidates(leaf.x, leaf.y))
+    write_mode(sink, mode, &grid.candidates(leaf.block.x, leaf.block.y))
 }
 
 // Writes that the chroma components have the luma mode (intra_chroma_pred_mode), and which components have levels (cbf_cb, cbf_cr and cbf_luma).
@@ -65,10 +66,10 @@ fn write_coded_flags<S: BinSink>(
     ensures taken { Writes (coded_flags luma cb cr) (S.stands_for sink.old) (S.stands_for sink.new) result }
     ensures not_ended { IsOpen (S.phase sink.new) }
 {
-    write_flag(sink, false, 10)?;
-    write_flag(sink, cb, 12)?;
-    write_flag(sink, cr, 12)?;
-    write_flag(sink, luma, 11)
+    write_flag(sink, false, INTRA_CHROMA_PRED_MODE)?;
+    write_flag(sink, cb, CBF_CB)?;
+    write_flag(sink, cr, CBF_CR)?;
+    write_flag(sink, luma, CBF_LUMA)
 }
 
 // Writes a component's levels, where one isn't 0.
@@ -115,7 +116,7 @@ pub(crate) fn write_intra<S: BinSink, V: LevelSource>(
     let (has_luma, has_cb, has_cr) = (cbf(&luma), cbf(&cb), cbf(&cr));
     write_prediction(sink, grid, leaf, mode)?;
     write_coded_flags(sink, has_luma, has_cb, has_cr)?;
-    let scan = scan_kind(mode, leaf.log2);
+    let scan = scan_kind(mode, leaf.block.log2);
     write_block(sink, &luma, 0, scan, has_luma)?;
     write_block(sink, &cb, 1, scan, has_cb)?;
     write_block(sink, &cr, 2, scan, has_cr)

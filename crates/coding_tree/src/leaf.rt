@@ -14,6 +14,7 @@ use crate::pcm::write_pcm;
 use crate::source::LevelSource;
 use bin_items::{BinSink, Kind, Leaf, NoMemory};
 use h265_model::SliceKind;
+use h265_model::syntax_elements::{CU_TRANSQUANT_BYPASS_FLAG, PART_MODE, PRED_MODE_FLAG};
 use pu_code::Grid;
 
 // Writes cu_skip_flag, which P slices have.
@@ -26,13 +27,13 @@ fn write_skip_flag<S: BinSink>(
     requires unit { IsUnit grid.now.size leaf }
     requires not_ended { IsOpen (S.phase sink.old) }
     ensures taken { (before : List TheLeaf) → StandsFor grid.now before →
-        Writes (in_P kind (context_bin (is_skipped leaf.kind) (skip_context before leaf.x leaf.y) ∷ [])) (S.stands_for sink.old) (S.stands_for sink.new) result }
+        Writes (in_P kind (context_bin (is_skipped leaf.kind) (skip_context before leaf.block.x leaf.block.y) ∷ [])) (S.stands_for sink.old) (S.stands_for sink.new) result }
     ensures not_ended { IsOpen (S.phase sink.new) }
 {
     match kind {
         SliceKind::I => Ok(()),
         SliceKind::P => {
-            let context = grid.skip_context(leaf.x, leaf.y);
+            let context = grid.skip_context(leaf.block.x, leaf.block.y);
             write_flag(sink, leaf.kind == Kind::Skip, context)
         }
     }
@@ -46,7 +47,7 @@ fn write_pred_mode<S: BinSink>(sink: &mut S, kind: SliceKind) -> Result<(), NoMe
 {
     match kind {
         SliceKind::I => Ok(()),
-        SliceKind::P => write_flag(sink, true, 7),
+        SliceKind::P => write_flag(sink, true, PRED_MODE_FLAG),
     }
 }
 
@@ -57,7 +58,7 @@ fn write_part_mode<S: BinSink>(sink: &mut S, log2: u32) -> Result<(), NoMemory>
     ensures not_ended { IsOpen (S.phase sink.new) }
 {
     if log2 == 3 {
-        write_flag(sink, true, 8)
+        write_flag(sink, true, PART_MODE)
     } else {
         Ok(())
     }
@@ -100,7 +101,7 @@ fn write_coded<S: BinSink, V: LevelSource>(
     ensures source { V.source source.new ≡ V.source source.old }
 {
     write_pred_mode(sink, kind)?;
-    write_part_mode(sink, leaf.log2)?;
+    write_part_mode(sink, leaf.block.log2)?;
     write_content(sink, grid, leaf, source)
 }
 
@@ -146,7 +147,7 @@ pub fn write_leaf<S: BinSink, V: LevelSource>(
     ensures size { grid.new.size ≡ grid.old.size }
     ensures source { V.source source.new ≡ V.source source.old }
 {
-    write_flag(sink, true, 0)?;
+    write_flag(sink, true, CU_TRANSQUANT_BYPASS_FLAG)?;
     write_skip_flag(sink, kind, grid, leaf)?;
     write_rest(sink, kind, grid, leaf, source)?;
     grid.set(leaf);

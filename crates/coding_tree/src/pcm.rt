@@ -30,15 +30,15 @@ fn append_samples<V: LevelSource>(
     planes: &mut [u8; 3072],
     at: usize,
 ) -> usize
-    requires low { 3 ≤ leaf.log2 }
-    requires high { leaf.log2 ≤ 5 }
+    requires low { 3 ≤ leaf.block.log2 }
+    requires high { leaf.block.log2 ≤ 5 }
     requires component { component < 3 }
-    requires room { at + area leaf.log2 ≤ 3072 }
+    requires room { at + area leaf.block.log2 ≤ 3072 }
     ensures samples { take result planes.new ≡ take at planes.old ++ (V.source source.old).samples leaf component }
-    ensures end { result ≡ at + area leaf.log2 }
+    ensures end { result ≡ at + area leaf.block.log2 }
     ensures kept { V.source source.new ≡ V.source source.old }
 {
-    let mut block = Block::zero(leaf.log2);
+    let mut block = Block::zero(leaf.block.log2);
     source.samples(leaf, component, &mut block);
     let end = at + (1 << (2 * block.log2()));
     copy_samples(block.as_slice(), &mut planes[at..end]);
@@ -47,10 +47,10 @@ fn append_samples<V: LevelSource>(
 
 // Gives the samples of the three components one after another, and how many there are.
 fn fill_planes<V: LevelSource>(source: &mut V, leaf: Leaf, planes: &mut [u8; 3072]) -> usize
-    requires low { 3 ≤ leaf.log2 }
-    requires high { leaf.log2 ≤ 5 }
+    requires low { 3 ≤ leaf.block.log2 }
+    requires high { leaf.block.log2 ≤ 5 }
     ensures samples { let s = V.source source.old in take result planes.new ≡ s.samples leaf 0 ++ s.samples leaf 1 ++ s.samples leaf 2 }
-    ensures count { result ≡ 3 * area leaf.log2 }
+    ensures count { result ≡ 3 * area leaf.block.log2 }
     ensures kept { V.source source.new ≡ V.source source.old }
 {
     let mut end = 0;
@@ -66,8 +66,8 @@ pub(crate) fn write_pcm<S: BinSink, V: LevelSource>(
     leaf: Leaf,
     source: &mut V,
 ) -> Result<(), NoMemory>
-    requires low { 3 ≤ leaf.log2 }
-    requires high { leaf.log2 ≤ 5 }
+    requires low { 3 ≤ leaf.block.log2 }
+    requires high { leaf.block.log2 ≤ 5 }
     requires not_ended { IsOpen (S.phase sink.old) }
     ensures taken { (before : List TheLeaf) → Writes (content_items (V.source source.old) before leaf Pcm) (S.stands_for sink.old) (S.stands_for sink.new) result }
     ensures not_ended { OnOk result (IsOpen (S.phase sink.new)) }

@@ -15,14 +15,14 @@ pub trait LevelSource {
     /// Fills a block with the levels of a unit, from -255 to 255.
     fn levels(&mut self, leaf: Leaf, component: u32, out: &mut Block)
         requires component { component < 3 }
-        requires side { out.old.log2 ≡ leaf.log2 }
+        requires side { out.old.log2 ≡ leaf.block.log2 }
         ensures levels { HasLevels (source self.old) leaf component out.new }
         ensures kept { source self.new ≡ source self.old };
 
     /// Fills a block with the samples of a unit, from 0 to 255.
     fn samples(&mut self, leaf: Leaf, component: u32, out: &mut Block)
         requires component { component < 3 }
-        requires side { out.old.log2 ≡ leaf.log2 }
+        requires side { out.old.log2 ≡ leaf.block.log2 }
         ensures samples { HasSamples (source self.old) leaf component out.new }
         ensures kept { source self.new ≡ source self.old };
 }

@@ -7,41 +7,40 @@ ghost use Rattle.pu_code.specs.Cells.{StandsFor};
 ghost use Rattle.coding_tree.specs.Splits.{split_items, MayBeSplit};
 
 use bin_items::{Bin, BinSink, NoMemory, Place};
+use h265_model::CodingBlock;
 use pu_code::Grid;
 use px_plane::Size;
 
-/// Writes split_cu_flag of the block with this place and side, or nothing where it is inferred (7.3.8.4).
+/// Writes split_cu_flag of a block, or nothing where it is inferred (7.3.8.4).
 ///
-/// The place is in the coded picture of this size, which is the grid's, and the base-2 logarithm of the side is from 3 to 5. The flag is inferred where
+/// The block begins in the coded picture of this size, which is the grid's, and the base-2 logarithm of the side is from 3 to 5. The flag is inferred where
 /// the side is 8, as not split, and where the block isn't wholly in the coded picture, as split; `split` is then the value inferred.
 /// After `NoMemory` nothing was taken.
 pub fn write_split<S: BinSink>(
     sink: &mut S,
     grid: &Grid,
     size: Size,
-    x: u32,
-    y: u32,
-    log2: u32,
+    block: CodingBlock,
     split: bool,
 ) -> Result<(), NoMemory>
     requires size { grid.now.size ≡ size }
-    requires across { x < coded size.w }
-    requires down { y < coded size.h }
-    requires low { 3 ≤ log2 }
-    requires high { log2 ≤ 5 }
-    requires may_be { MayBeSplit size x y log2 split }
+    requires across { block.x < coded size.w }
+    requires down { block.y < coded size.h }
+    requires low { 3 ≤ block.log2 }
+    requires high { block.log2 ≤ 5 }
+    requires may_be { MayBeSplit size block split }
     requires not_ended { IsOpen (S.phase sink.old) }
-    ensures taken { (before : List TheLeaf) → StandsFor grid.now before → Writes (split_items size before x y log2 split) (S.stands_for sink.old) (S.stands_for sink.new) result }
+    ensures taken { (before : List TheLeaf) → StandsFor grid.now before → Writes (split_items size before block split) (S.stands_for sink.old) (S.stands_for sink.new) result }
     ensures not_ended { IsOpen (S.phase sink.new) }
 {
-    let side = 1 << log2;
-    let is_whole = x + side <= coded_side(size.w()) && y + side <= coded_side(size.h());
-    if log2 == 3 || !is_whole {
+    let side = 1 << block.log2;
+    let is_whole = block.x + side <= coded_side(size.w()) && block.y + side <= coded_side(size.h());
+    if block.log2 == 3 || !is_whole {
         return Ok(());
     }
     sink.bin(Bin {
         value: split,
-        place: Place::Context(grid.split_context(x, y, 5 - log2)),
+        place: Place::Context(grid.split_context(block)),
     })
 }
 

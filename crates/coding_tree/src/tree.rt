@@ -2,7 +2,7 @@
 ghost use Rattle.std.specs.Prelude.{◌≡◌, ◌<◌, ◌≤◌, ◌++◌, ◌∷◌, [], List, OnOk};
 ghost use Rattle.h265_model.specs.declared.leaf.Leaf.{Leaf as TheLeaf};
 ghost use Rattle.h265_model.specs.Tiles.{tile_count};
-ghost use Rattle.h265_model.specs.Tree.{ctu_items, IsLawfulTree, AreAllowed, IsAllowed};
+ghost use Rattle.h265_model.specs.Tree.{leaf_units, ctu_items, IsLawfulTree, AreAllowed, IsAllowed};
 ghost use Rattle.bin_items.specs.Growth.{IsOpen, Writes};
 ghost use Rattle.pu_code.specs.Cells.{StandsFor, IsUnit};
 ghost use Rattle.coding_tree.specs.UnitFlags.{begins, flag_items, flags_items, unit_items};
@@ -11,7 +11,7 @@ use crate::leaf::write_leaf;
 use crate::source::LevelSource;
 use crate::split::write_split;
 use bin_items::{BinSink, Leaf, NoMemory};
-use h265_model::SliceKind;
+use h265_model::{CodingBlock, SliceKind};
 use pu_code::Grid;
 use px_plane::Size;
 
@@ -34,7 +34,7 @@ pub fn write_ctu<S: BinSink, V: LevelSource>(
     requires allowed { AreAllowed kind leaves.now }
     requires not_ended { IsOpen (S.phase sink.old) }
     ensures taken { (before : List TheLeaf) → StandsFor grid.old before →
-        Writes (ctu_items kind size (V.source source.old) before leaves.now ctu) (S.stands_for sink.old) (S.stands_for sink.new) result }
+        Writes (ctu_items (leaf_units kind (V.source source.old)) size before leaves.now ctu) (S.stands_for sink.old) (S.stands_for sink.new) result }
     ensures not_ended { OnOk result (IsOpen (S.phase sink.new)) }
     ensures set { OnOk result ((before : List TheLeaf) → StandsFor grid.old before → StandsFor grid.new (before ++ leaves.now)) }
     ensures size { grid.new.size ≡ grid.old.size }
@@ -106,7 +106,12 @@ fn write_split_flag<S: BinSink>(
     if !is_first(leaf, log2) {
         return Ok(());
     }
-    write_split(sink, grid, size, leaf.x, leaf.y, log2, leaf.log2 < log2)
+    let block = CodingBlock {
+        x: leaf.block.x,
+        y: leaf.block.y,
+        log2,
+    };
+    write_split(sink, grid, size, block, leaf.block.log2 < log2)
 }
 
 // Whether a block of this side begins with the unit: the unit is no larger, and its place is a multiple of the side.
@@ -115,5 +120,5 @@ fn is_first(leaf: Leaf, log2: u32) -> bool
     ensures { result ≡ begins leaf log2 }
 {
     let side = 1 << log2;
-    leaf.log2 <= log2 && leaf.x % side == 0 && leaf.y % side == 0
+    leaf.block.log2 <= log2 && leaf.block.x % side == 0 && leaf.block.y % side == 0
 }

@@ -6,6 +6,7 @@ use Rattle.std.proofs.lemmas.Bool.Decides.{nat_tests}
 use Rattle.h265_model.specs.Bits.{digit}
 use Rattle.h265_model.specs.Engine.{Engine, bin, give}
 use Rattle.h265_model.specs.declared.Place.TheVariants.{Context}
+use Rattle.h265_model.specs.SyntaxElements.{sig_coeff_flag}
 use Rattle.h265_model.specs.Residual as residual
 use Rattle.h265_model.specs.Residual.{sig_within, sig_added, sig_context, sig_at, is_implied, place_at, scan, Sub}
 use Rattle.residual_read.specs.declared.flags.TheConstants.{WITHIN}
@@ -72,13 +73,13 @@ four_some a b c d h = grind (arith, nat_tests)
 
 -- the context of a level that isn't the first, in two parts
 pub sig_later : (component log2 kind a b i start part : ℕ) (right below : Bool) → 0 < i → i < 16
-    → start ≡ (if component == 0 then 53 else 80) + sig_added component log2 kind (a + b == 0) → part ≡ sig_within right below (place_at (scan kind 2) i).0 (place_at (scan kind 2) i).1
+    → start ≡ (if component == 0 then sig_coeff_flag else sig_coeff_flag + 27) + sig_added component log2 kind (a + b == 0) → part ≡ sig_within right below (place_at (scan kind 2) i).0 (place_at (scan kind 2) i).1
     → start + part ≡ sig_context component log2 kind a b (place_at (scan kind 2) i).0 (place_at (scan kind 2) i).1 right below
 unfolding sig_context
 sig_later component log2 kind a b i start part right below h k se pe =
     let t : (a + b + (place_at (scan kind 2) i).0 + (place_at (scan kind 2) i).1 == 0) ≡ false = four_some a b (place_at (scan kind 2) i).0 (place_at (scan kind 2) i).1 (later_place kind i h k) in
-    let s : start + part ≡ (if component == 0 then 53 else 80) + (sig_within right below (place_at (scan kind 2) i).0 (place_at (scan kind 2) i).1 + sig_added component log2 kind (a + b == 0)) = omega arith in
-    s ∙ sym (ap (λ (z : Bool). (if component == 0 then 53 else 80) + (if z then 0 else sig_within right below (place_at (scan kind 2) i).0 (place_at (scan kind 2) i).1 + sig_added component log2 kind (a + b == 0))) t)
+    let s : start + part ≡ (if component == 0 then sig_coeff_flag else sig_coeff_flag + 27) + (sig_within right below (place_at (scan kind 2) i).0 (place_at (scan kind 2) i).1 + sig_added component log2 kind (a + b == 0)) = omega arith in
+    s ∙ sym (ap (λ (z : Bool). (if component == 0 then sig_coeff_flag else sig_coeff_flag + 27) + (if z then 0 else sig_within right below (place_at (scan kind 2) i).0 (place_at (scan kind 2) i).1 + sig_added component log2 kind (a + b == 0))) t)
 
 and_false : (a b : Bool) → (a && b && false) ≡ false
 and_false true true = refl

@@ -2,6 +2,7 @@
 ghost use Rattle.std.specs.Prelude.{◌≡◌, ◌<◌, ◌≤◌, ◌+◌, ◌*◌, ◌-◌, ◌^◌, IfSome, if◌then◌else◌, not, ◌==◌, true};
 ghost use Rattle.h265_model.specs.declared.Place.TheVariants as places_;
 ghost use Rattle.h265_model.specs.Engine.{bin, give};
+ghost use Rattle.h265_model.specs.SyntaxElements.{sig_coeff_flag};
 ghost use Rattle.h265_model.specs.Residual as residual;
 ghost use Rattle.h265_model.specs.Residual.{sig_at, is_implied, place_at};
 ghost use Rattle.cabac_dec.specs.State.{IsOpen, Answers};
@@ -9,6 +10,7 @@ ghost use Rattle.residual_read.specs.Parts.{IsShape, IsSubBlock, shape_of, sub_o
 
 use crate::shape::{Shape, SubBlock};
 use cabac_dec::{Decoder, Place};
+use h265_model::syntax_elements::SIG_COEFF_FLAG;
 use scan_orders::{places, sig_context};
 
 /// Reads sig_coeff_flag of the first `top` levels of a sub-block, the last of them first, as digits after those of `mask`. The flag of the first
@@ -67,13 +69,13 @@ fn within(scan: u32, sub: SubBlock, number: u32) -> u32
 fn sig_start(shape: Shape, sub: SubBlock) -> u32
     requires shape { IsShape shape }
     requires sub { IsSubBlock shape sub }
-    ensures { result ≡ (if shape.component == 0 then 53 else 80) + residual.sig_added shape.component shape.log2 shape.scan (sub.x + sub.y == 0) }
+    ensures { result ≡ (if shape.component == 0 then sig_coeff_flag else sig_coeff_flag + 27) + residual.sig_added shape.component shape.log2 shape.scan (sub.x + sub.y == 0) }
 {
     let first = sub.x + sub.y == 0;
     if shape.component == 0 {
-        53 + added(shape, first)
+        SIG_COEFF_FLAG + added(shape, first)
     } else {
-        80 + added(shape, first)
+        SIG_COEFF_FLAG + 27 + added(shape, first)
     }
 }
 
@@ -110,7 +112,7 @@ fn read_later(
     requires sub { IsSubBlock shape sub }
     requires later { 0 < number }
     requires number { number < 16 }
-    requires start { start ≡ (if shape.component == 0 then 53 else 80) + residual.sig_added shape.component shape.log2 shape.scan (sub.x + sub.y == 0) }
+    requires start { start ≡ (if shape.component == 0 then sig_coeff_flag else sig_coeff_flag + 27) + residual.sig_added shape.component shape.log2 shape.scan (sub.x + sub.y == 0) }
     ensures value { Answers result ((if is_implied inner (not (flags == 0)) number then give true else bin (places_.Context (sig_at (shape_of shape) (sub_of sub) number))) decoder.old) decoder.new }
     ensures open { IfSome result (λ _. IsOpen decoder.new) }
 {

@@ -2,6 +2,11 @@
 ghost use Rattle.std.specs.Prelude.{◌≡◌, ◌<◌, ◌≤◌, ◌^◌, ◌*◌, ◌-◌, ◌==◌, if◌then◌else◌};
 ghost use Rattle.h265_model.specs.Residual as residual;
 
+use h265_model::syntax_elements::{
+    CODED_SUB_BLOCK_FLAG, COEFF_ABS_LEVEL_GREATER1_FLAG, COEFF_ABS_LEVEL_GREATER2_FLAG,
+    LAST_SIG_COEFF_X_PREFIX, LAST_SIG_COEFF_Y_PREFIX, SIG_COEFF_FLAG,
+};
+
 /// The context of bin `index` of last_sig_coeff_x_prefix, or of last_sig_coeff_y_prefix where `vertical` holds (9.3.4.2.3).
 #[inline(always)]
 #[tactic(auto, unfolding(h265_model::specs::Residual::last_context))]
@@ -12,7 +17,11 @@ pub fn last_context(component: u32, log2: u32, vertical: bool, index: u32) -> u3
     requires index { index < 2 * log2 - 1 }
     ensures { result ≡ residual.last_context component log2 vertical index }
 {
-    let first = if vertical { 31 } else { 13 };
+    let first = if vertical {
+        LAST_SIG_COEFF_Y_PREFIX
+    } else {
+        LAST_SIG_COEFF_X_PREFIX
+    };
     if component == 0 {
         first + 3 * (log2 - 2) + ((log2 - 1) >> 2) + (index >> ((log2 + 1) >> 2))
     } else {
@@ -27,7 +36,7 @@ pub fn sub_block_context(component: u32, right: bool, below: bool) -> u32
     requires { component < 3 }
     ensures { result ≡ residual.sub_block_context component right below }
 {
-    49 + u32::from(right || below) + if component == 0 { 0 } else { 2 }
+    CODED_SUB_BLOCK_FLAG + u32::from(right || below) + if component == 0 { 0 } else { 2 }
 }
 
 // The part of sigCtx that the place in its sub-block gives: 16 places in rows for each pair of flags of the sub-blocks below and on the right.
@@ -90,7 +99,11 @@ pub fn sig_context(
     requires y { y < 4 }
     ensures { result ≡ residual.sig_context component log2 scan sub_x sub_y x y right below }
 {
-    let base = if component == 0 { 53 } else { 80 };
+    let base = if component == 0 {
+        SIG_COEFF_FLAG
+    } else {
+        SIG_COEFF_FLAG + 27
+    };
     if sub_x + sub_y + x + y == 0 {
         return base;
     }
@@ -105,7 +118,7 @@ pub fn greater1_context(component: u32, set: u32, counter: u32) -> u32
     requires set { set < (if component == 0 then 4 else 2) }
     ensures { result ≡ residual.greater1_context component set counter }
 {
-    95 + 4 * set + counter.min(3) + if component == 0 { 0 } else { 16 }
+    COEFF_ABS_LEVEL_GREATER1_FLAG + 4 * set + counter.min(3) + if component == 0 { 0 } else { 16 }
 }
 
 /// The context of coeff_abs_level_greater2_flag, by the context set (9.3.4.2.7).
@@ -116,5 +129,5 @@ pub fn greater2_context(component: u32, set: u32) -> u32
     requires set { set < (if component == 0 then 4 else 2) }
     ensures { result ≡ residual.greater2_context component set }
 {
-    119 + set + if component == 0 { 0 } else { 4 }
+    COEFF_ABS_LEVEL_GREATER2_FLAG + set + if component == 0 { 0 } else { 4 }
 }

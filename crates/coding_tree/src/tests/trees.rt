@@ -1,12 +1,12 @@
 //! The items of random coding trees, from an independent model of the recorder in Python.
 ghost use Rattle.std.specs.Prelude.{◌≡◌, ◌<◌, ◌≤◌, ◌+◌, ◌*◌, ◌/◌, ◌%◌, ◌^◌, true, length, take, replicate, set, pos, IsTrue, IfSome};
 ghost use Rattle.h265_model.specs.Tiles.{tile_count};
-ghost use Rattle.h265_model.specs.Plain.{coded};
+ghost use Rattle.h265_model.specs.Plain.{block_at, coded};
 ghost use Rattle.h265_model.specs.Tree.{is_whole, IsMode, IsCodingUnit, IsTree, IsLawfulTree, AreAllowed};
 
 use crate::{Block, Grid, Leaf, LevelSource, write_ctu};
 use bin_items::{Bin, Item, ItemList, Place};
-use h265_model::{Kind, SliceKind};
+use h265_model::{CodingBlock, Kind, SliceKind};
 use px_plane::Size;
 use std::alloc::Global;
 use std::process::Abort;
@@ -21,28 +21,28 @@ impl LevelSource for OneEach {
     ghost use Rattle.bin_items.specs.Square.{area, place};
 
     ghost source = { λ s. record {
-      levels = λ leaf component. set (replicate (area leaf.log2) (pos 0)) (place leaf.log2 (leaf.x / 8 % 8) ((leaf.y / 8 + 3 * component) % 8))
-          (pos ((leaf.x / 8 + leaf.y / 4 + component) % 4));
-      samples = λ leaf component. set (replicate (area leaf.log2) 0) (place leaf.log2 (leaf.x / 8 % 8) ((leaf.y / 8 + 3 * component) % 8))
-          ((leaf.x % 256 + 3 * (leaf.y % 256) + 50 * component) % 256);
+      levels = λ leaf component. set (replicate (area leaf.block.log2) (pos 0)) (place leaf.block.log2 (leaf.block.x / 8 % 8) ((leaf.block.y / 8 + 3 * component) % 8))
+          (pos ((leaf.block.x / 8 + leaf.block.y / 4 + component) % 4));
+      samples = λ leaf component. set (replicate (area leaf.block.log2) 0) (place leaf.block.log2 (leaf.block.x / 8 % 8) ((leaf.block.y / 8 + 3 * component) % 8))
+          ((leaf.block.x % 256 + 3 * (leaf.block.y % 256) + 50 * component) % 256);
     } };
 
     fn levels(&mut self, leaf: Leaf, component: u32, out: &mut Block) {
-        let level = (leaf.x / 8 + leaf.y / 4 + component) % 4;
+        let level = (leaf.block.x / 8 + leaf.block.y / 4 + component) % 4;
         *out = Block::zero(out.log2());
         out.set(
-            leaf.x / 8 % 8,
-            (leaf.y / 8 + 3 * component) % 8,
+            leaf.block.x / 8 % 8,
+            (leaf.block.y / 8 + 3 * component) % 8,
             i16::from(level as u8),
         );
     }
 
     fn samples(&mut self, leaf: Leaf, component: u32, out: &mut Block) {
-        let sample = (leaf.x % 256 + 3 * (leaf.y % 256) + 50 * component) % 256;
+        let sample = (leaf.block.x % 256 + 3 * (leaf.block.y % 256) + 50 * component) % 256;
         *out = Block::zero(out.log2());
         out.set(
-            leaf.x / 8 % 8,
-            (leaf.y / 8 + 3 * component) % 8,
+            leaf.block.x / 8 % 8,
+            (leaf.block.y / 8 + 3 * component) % 8,
             i16::from(sample as u8),
         );
     }
@@ -100,9 +100,7 @@ fn unit_at(random: Random, x: u32, y: u32) -> Leaf
         }
     }
     Leaf {
-        x,
-        y,
-        log2,
+        block: CodingBlock { x, y, log2 },
         kind: kind_of(random.kind, number(random.seed, x, y, 0)),
     }
 }
@@ -124,7 +122,7 @@ fn random_tree(alloc: Global, random: Random, left: u32, top: u32) -> Result<Vec
         }
         let leaf = unit_at(random, x, y);
         next = block
-            + match leaf.log2 {
+            + match leaf.block.log2 {
                 3 => 1,
                 4 => 4,
                 _ => 16,
@@ -150,14 +148,18 @@ fn begins_with_unit(size: Size, log2: u32, x: u32, y: u32, leaves: &[Leaf]) -> b
     requires y { y ≤ 10000 }
     ensures some { IsTrue result → 0 < length leaves.now }
     ensures whole { IsTrue result → is_whole size (2 ^ log2) x y ≡ true }
-    ensures unit { IsTrue result → IsCodingUnit x y log2 (take 1 leaves.now) }
+    ensures unit { IsTrue result → IsCodingUnit (block_at x y log2) (take 1 leaves.now) }
 {
     let Some(leaf) = leaves.first() else {
         return false;
     };
     let side = 1 << log2;
     let is_whole = x + side <= coded_side(size.w()) && y + side <= coded_side(size.h());
-    is_whole && leaf.x == x && leaf.y == y && leaf.log2 == log2 && has_mode(leaf.kind)
+    is_whole
+        && leaf.block.x == x
+        && leaf.block.y == y
+        && leaf.block.log2 == log2
+        && has_mode(leaf.kind)
 }
 
 // How many leaves, from the first on, are a tree of the block of side 2 ^ (3 + depth) at a place.

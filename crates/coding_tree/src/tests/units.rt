@@ -1,12 +1,13 @@
 //! The items of coding units and split flags, from an independent model of the recorder in Python.
 ghost use Rattle.std.specs.Prelude.{◌≡◌, ◌<◌, ◌≤◌, IfOk};
-ghost use Rattle.h265_model.specs.Plain.{coded};
+ghost use Rattle.h265_model.specs.Plain.{block_at, coded};
 ghost use Rattle.h265_model.specs.Tree.{IsAllowed};
 ghost use Rattle.pu_code.specs.Cells.{IsUnit};
 ghost use Rattle.coding_tree.specs.Splits.{MayBeSplit};
 
 use crate::{Block, Grid, Kind, Leaf, LevelSource, SliceKind, write_leaf, write_split};
 use bin_items::{Bin, Item, ItemList, Place};
+use h265_model::CodingBlock;
 use px_plane::Size;
 use std::alloc::Global;
 use std::process::Abort;
@@ -27,9 +28,9 @@ impl LevelSource for Spots {
     ghost use Rattle.bin_items.specs.Square.{area, place};
 
     ghost source = { λ s. record {
-      levels = λ leaf component. set (replicate (area leaf.log2) (pos 0)) (place leaf.log2 ((s.x % 8 + component) % 8) ((s.y % 8 + 3 * component) % 8))
+      levels = λ leaf component. set (replicate (area leaf.block.log2) (pos 0)) (place leaf.block.log2 ((s.x % 8 + component) % 8) ((s.y % 8 + 3 * component) % 8))
           (pos (s.levels / 2 ^ (8 * component) % 256));
-      samples = λ leaf component. set (replicate (area leaf.log2) 0) (place leaf.log2 ((s.x % 8 + component) % 8) ((s.y % 8 + 3 * component) % 8))
+      samples = λ leaf component. set (replicate (area leaf.block.log2) 0) (place leaf.block.log2 ((s.x % 8 + component) % 8) ((s.y % 8 + 3 * component) % 8))
           (s.samples / 2 ^ (8 * component) % 256);
     } };
 
@@ -141,9 +142,12 @@ fn are_items(items: &[Item], bins: &[u64], count: usize, spots: &[(usize, u8)]) 
 }
 
 fn leaf(x: u32, y: u32, log2: u32, kind: Kind) -> Leaf
-    ensures { result ≡ record { x = x; y = y; log2 = log2; kind = kind } }
+    ensures { result ≡ record { block = block_at x y log2; kind = kind } }
 {
-    Leaf { x, y, log2, kind }
+    Leaf {
+        block: block(x, y, log2),
+        kind,
+    }
 }
 
 // A slice of a picture of 64 by 64.
@@ -355,28 +359,32 @@ fn filled(alloc: Global) -> Result<Grid, Fail>
     Ok(grid)
 }
 
+fn block(x: u32, y: u32, log2: u32) -> CodingBlock
+    ensures { result ≡ block_at x y log2 }
+{
+    CodingBlock { x, y, log2 }
+}
+
 // That these are the bins of a split, or of none.
 fn check_flag(
     rt: &impl Abort,
     alloc: Global,
     grid: &Grid,
-    x: u32,
-    y: u32,
-    log2: u32,
+    block: CodingBlock,
     split: bool,
     bins: &[u64],
 ) -> Result<(), Fail>
     requires size { grid.now.size ≡ record { w = 70; h = 60 } }
-    requires across { x < 72 }
-    requires down { y < 64 }
-    requires low { 3 ≤ log2 }
-    requires high { log2 ≤ 5 }
-    requires may_be { MayBeSplit (record { w = 70; h = 60 }) x y log2 split }
+    requires across { block.x < 72 }
+    requires down { block.y < 64 }
+    requires low { 3 ≤ block.log2 }
+    requires high { block.log2 ≤ 5 }
+    requires may_be { MayBeSplit (record { w = 70; h = 60 }) block split }
 {
     let size = Size::new(70, 60).ok_or("size")?;
     let mut items = ItemList::new(alloc);
-    write_split(&mut items, grid, size, x, y, log2, split)?;
-    assert!(rt; are_items(items.as_slice(), bins, 0, &[]), "{x} {y} {log2}");
+    write_split(&mut items, grid, size, block, split)?;
+    assert!(rt; are_items(items.as_slice(), bins, 0, &[]), "{block:?}");
     Ok(())
 }
 
@@ -384,19 +392,19 @@ fn check_flag(
 fn split_flags(rt: HostRuntime) -> Result<(), Fail> {
     let alloc = rt.alloc();
     let grid = filled(alloc)?;
-    check_flag(&rt, alloc, &grid, 0, 0, 5, true, &[3])?;
-    check_flag(&rt, alloc, &grid, 0, 0, 4, false, &[2])?;
-    check_flag(&rt, alloc, &grid, 16, 0, 4, true, &[3])?;
-    check_flag(&rt, alloc, &grid, 16, 0, 3, false, &[])?;
-    check_flag(&rt, alloc, &grid, 16, 16, 4, false, &[4])?;
-    check_flag(&rt, alloc, &grid, 32, 0, 5, false, &[4])?;
-    check_flag(&rt, alloc, &grid, 32, 0, 4, true, &[5])?;
-    check_flag(&rt, alloc, &grid, 32, 32, 5, true, &[3])?;
-    check_flag(&rt, alloc, &grid, 0, 32, 5, true, &[5])?;
-    check_flag(&rt, alloc, &grid, 16, 32, 4, false, &[2])?;
-    check_flag(&rt, alloc, &grid, 64, 0, 5, true, &[])?;
-    check_flag(&rt, alloc, &grid, 64, 32, 4, true, &[])?;
-    check_flag(&rt, alloc, &grid, 64, 56, 3, false, &[])?;
-    check_flag(&rt, alloc, &grid, 56, 48, 4, true, &[3])?;
+    check_flag(&rt, alloc, &grid, block(0, 0, 5), true, &[3])?;
+    check_flag(&rt, alloc, &grid, block(0, 0, 4), false, &[2])?;
+    check_flag(&rt, alloc, &grid, block(16, 0, 4), true, &[3])?;
+    check_flag(&rt, alloc, &grid, block(16, 0, 3), false, &[])?;
+    check_flag(&rt, alloc, &grid, block(16, 16, 4), false, &[4])?;
+    check_flag(&rt, alloc, &grid, block(32, 0, 5), false, &[4])?;
+    check_flag(&rt, alloc, &grid, block(32, 0, 4), true, &[5])?;
+    check_flag(&rt, alloc, &grid, block(32, 32, 5), true, &[3])?;
+    check_flag(&rt, alloc, &grid, block(0, 32, 5), true, &[5])?;
+    check_flag(&rt, alloc, &grid, block(16, 32, 4), false, &[2])?;
+    check_flag(&rt, alloc, &grid, block(64, 0, 5), true, &[])?;
+    check_flag(&rt, alloc, &grid, block(64, 32, 4), true, &[])?;
+    check_flag(&rt, alloc, &grid, block(64, 56, 3), false, &[])?;
+    check_flag(&rt, alloc, &grid, block(56, 48, 4), true, &[3])?;
     Ok(())
 }

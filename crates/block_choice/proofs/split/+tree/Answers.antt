@@ -2,7 +2,7 @@ use Rattle.std.proofs.Common.{◌≡◌, ℕ, ◌+◌, ◌-◌, ◌*◌, ◌<◌
 use Rattle.std.specs.Prelude.{Some, None}
 use Rattle.arrayvec.specs.ArrayVec.{ArrayVec}
 use Rattle.h265_model.specs.declared.leaf.Leaf.{Leaf}
-use Rattle.h265_model.specs.Plain.{leaf_with}
+use Rattle.h265_model.specs.Plain.{block_at, leaf_with}
 use Rattle.h265_model.specs.Predict.{is_inside}
 use Rattle.h265_model.specs.Choice.{Plan}
 use Rattle.px_plane.specs.Planes.{picture_of}
@@ -70,7 +70,7 @@ plan_block-returns-clause-planned t c =
     let is = rw found at c.whole_leaf-leaf.ensures in
     let to : c.match-leaf.bound ≡ c.in_ok-best.best.cost = rw found at bound in
     let p = leaf_planned (before_of k) (picture_of k.current.now) k.current.now.size k.effort c.in_ok-best.best c.args.limit c.args.depth c.args.x c.args.y inside is (rw (← to) splits) in
-    rw p (refl, is.1, c.push.ensures.items ∙ ap (λ (l : List Leaf). l ++ leaf_with c.args.x c.args.y (3 + c.args.depth) c.in_ok-best.best.kind ∷ []) kept)
+    rw p (refl, is.1, c.push.ensures.items ∙ ap (λ (l : List Leaf). l ++ leaf_with (block_at c.args.x c.args.y (3 + c.args.depth)) c.in_ok-best.best.kind ∷ []) kept)
 
 pub plan_block-returns-clause-few : goal.plan_block-returns-clause-few
 plan_block-returns-clause-few t c =
@@ -92,7 +92,7 @@ plan_split-plan_block-requires t c =
         (
           omega arith,
           (
-            quarter_place c.args.task.now c.args.depth c.args.x c.args.y q c.side-half.result c.requires.depth (omega arith) c.side-half.ensures.value c.requires.place,
+            quarter_place c.args.task.now c.args.depth c.args.x c.args.y q c.side_of-half.result c.requires.depth (omega arith) c.side_of-half.ensures.value c.requires.place,
             omega arith,
           ),
         ),
@@ -104,7 +104,7 @@ plan_split-returns-in-None-clause-planned t c =
     let k = c.args.task.now in
     let d : ℕ = c.args.depth in
     let q : ℕ = c.loop-quarter.quarter in
-    let half : c.side-half.result ≡ 2 ^ (3 + d) = c.side-half.ensures.value in
+    let half : c.side_of-half.result ≡ 2 ^ (3 + d) = c.side_of-half.ensures.value in
     let part = rw half at c.in-None.ensures.planned.0 in
     let next = parts_next (before_of k) (picture_of k.current.now) k.current.now.size k.effort d c.args.x c.args.y q (q + 1) refl in
     let back : (q + 1) + (3 - q) ≡ 4 = omega arith in

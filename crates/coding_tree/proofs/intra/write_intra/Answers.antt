@@ -5,22 +5,22 @@ use Rattle.coding_tree.proofs.UnitLaws.{intra_is, scan_small}
 use Rattle.coding_tree.proofs.intra.write_intra.Goals as goal
 
 pub write_block-requires-clause-scan : goal.write_block-requires-clause-scan
-write_block-requires-clause-scan g c = scan_small c.args.mode c.args.leaf.log2 c.scan_kind-scan.result c.scan_kind-scan.ensures
+write_block-requires-clause-scan g c = scan_small c.args.mode c.args.leaf.block.log2 c.scan_kind-scan.result c.scan_kind-scan.ensures
 
 pub write_block-requires-2-clause-scan : goal.write_block-requires-2-clause-scan
-write_block-requires-2-clause-scan g c = scan_small c.args.mode c.args.leaf.log2 c.scan_kind-scan.result c.scan_kind-scan.ensures
+write_block-requires-2-clause-scan g c = scan_small c.args.mode c.args.leaf.block.log2 c.scan_kind-scan.result c.scan_kind-scan.ensures
 
 pub write_block-requires-3-clause-scan : goal.write_block-requires-3-clause-scan
-write_block-requires-3-clause-scan g c = scan_small c.args.mode c.args.leaf.log2 c.scan_kind-scan.result c.scan_kind-scan.ensures
+write_block-requires-3-clause-scan g c = scan_small c.args.mode c.args.leaf.block.log2 c.scan_kind-scan.result c.scan_kind-scan.ensures
 
 pub returns-in_err-write_prediction-clause-taken : goal.returns-in_err-write_prediction-clause-taken
 returns-in_err-write_prediction-clause-taken g c = λ before stands.
-    writes_at_err _ _ _ _ _ c.from_residual.ensures.1 (front_as _ _ _ _ (intra_is _ _ _ before c.args.leaf c.args.mode (scan_kind c.args.mode c.args.leaf.log2) c.levels_of-luma.result c.levels_of-cb.result c.levels_of-cr.result c.cbf-has_luma.result c.cbf-has_cb.result c.cbf-has_cr.result c.levels_of-luma.ensures.levels c.levels_of-luma.ensures.kept c.levels_of-cb.ensures.levels c.levels_of-cb.ensures.kept c.levels_of-cr.ensures.levels c.cbf-has_luma.ensures c.cbf-has_cb.ensures c.cbf-has_cr.ensures refl)
+    writes_at_err _ _ _ _ _ c.from_residual.ensures.1 (front_as _ _ _ _ (intra_is _ _ _ before c.args.leaf c.args.mode (scan_kind c.args.mode c.args.leaf.block.log2) c.levels_of-luma.result c.levels_of-cb.result c.levels_of-cr.result c.cbf-has_luma.result c.cbf-has_cb.result c.cbf-has_cr.result c.levels_of-luma.ensures.levels c.levels_of-luma.ensures.kept c.levels_of-cb.ensures.levels c.levels_of-cb.ensures.kept c.levels_of-cr.ensures.levels c.cbf-has_luma.ensures c.cbf-has_cb.ensures c.cbf-has_cr.ensures refl)
     (front_first _ _ _ _ (c.in_err-write_prediction.ensures.taken before stands)))
 
 pub returns-in_err-write_coded_flags-clause-taken : goal.returns-in_err-write_coded_flags-clause-taken
 returns-in_err-write_coded_flags-clause-taken g c = λ before stands.
-    writes_at_err _ _ _ _ _ c.from_residual-in_err-write_coded_flags.ensures.1 (front_as _ _ _ _ (intra_is _ _ _ before c.args.leaf c.args.mode (scan_kind c.args.mode c.args.leaf.log2) c.levels_of-luma.result c.levels_of-cb.result c.levels_of-cr.result c.cbf-has_luma.result c.cbf-has_cb.result c.cbf-has_cr.result c.levels_of-luma.ensures.levels c.levels_of-luma.ensures.kept c.levels_of-cb.ensures.levels c.levels_of-cb.ensures.kept c.levels_of-cr.ensures.levels c.cbf-has_luma.ensures c.cbf-has_cb.ensures c.cbf-has_cr.ensures refl)
+    writes_at_err _ _ _ _ _ c.from_residual-in_err-write_coded_flags.ensures.1 (front_as _ _ _ _ (intra_is _ _ _ before c.args.leaf c.args.mode (scan_kind c.args.mode c.args.leaf.block.log2) c.levels_of-luma.result c.levels_of-cb.result c.levels_of-cr.result c.cbf-has_luma.result c.cbf-has_cb.result c.cbf-has_cr.result c.levels_of-luma.ensures.levels c.levels_of-luma.ensures.kept c.levels_of-cb.ensures.levels c.levels_of-cb.ensures.kept c.levels_of-cr.ensures.levels c.cbf-has_luma.ensures c.cbf-has_cb.ensures c.cbf-has_cr.ensures refl)
     (front_then _ _ _ _ _ (c.in_ok-write_prediction.ensures.taken before stands) (front_first _ _ _ _ c.in_err-write_coded_flags.ensures.taken)))
 
 pub returns-in_err-write_block-clause-taken : goal.returns-in_err-write_block-clause-taken

@@ -11,21 +11,21 @@ returns-in_err-bin-clause-taken g c = λ before. writes_at_err _ _ _ _ _ c.from_
 
 pub slice_bounds-planes-end : goal.slice_bounds-planes-end
 slice_bounds-planes-end g c =
-    let low : area c.args.leaf.log2 ≤ 1024 = area_low c.args.leaf.log2 c.requires.low c.requires.high in
+    let low : area c.args.leaf.block.log2 ≤ 1024 = area_low c.args.leaf.block.log2 c.requires.low c.requires.high in
     let long : length c.fill_planes-count.new.planes ≡ 3072 = search rules in
     rw c.fill_planes-count.ensures.count (omega arith)
 
 pub slice_bounds-pcm-end : goal.slice_bounds-pcm-end
 slice_bounds-pcm-end g c =
-    let low : area c.args.leaf.log2 ≤ 1024 = area_low c.args.leaf.log2 c.requires.low c.requires.high in
+    let low : area c.args.leaf.block.log2 ≤ 1024 = area_low c.args.leaf.block.log2 c.requires.low c.requires.high in
     let long : length c.fill_planes-count.new.planes ≡ 3072 = search rules in
     let within : c.fill_planes-count.result ≤ length c.fill_planes-count.new.planes = rw (c.fill_planes-count.ensures.count, long) (omega arith) in
     sym (length-take-le c.fill_planes-count.result c.fill_planes-count.new.planes within)
 
 pub pcm-requires-clause-some : goal.pcm-requires-clause-some
 pcm-requires-clause-some g c =
-    let some : 0 < area c.args.leaf.log2 = area_some c.args.leaf.log2 c.requires.low c.requires.high in
-    let low : area c.args.leaf.log2 ≤ 1024 = area_low c.args.leaf.log2 c.requires.low c.requires.high in
+    let some : 0 < area c.args.leaf.block.log2 = area_some c.args.leaf.block.log2 c.requires.low c.requires.high in
+    let low : area c.args.leaf.block.log2 ≤ 1024 = area_low c.args.leaf.block.log2 c.requires.low c.requires.high in
     let long : length c.fill_planes-count.new.planes ≡ 3072 = search rules in
     let within : c.fill_planes-count.result ≤ length c.fill_planes-count.new.planes = rw (c.fill_planes-count.ensures.count, long) (omega arith) in
     rw (length-take-le c.fill_planes-count.result c.fill_planes-count.new.planes within, c.fill_planes-count.ensures.count) (omega arith)
