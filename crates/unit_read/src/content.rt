@@ -12,10 +12,10 @@ use crate::intra::read_intra;
 use crate::kept::Kept;
 use bin_items::{Block, Kind};
 use cabac_dec::{Decoder, Place};
+use h265_model::CodingBlock;
 use leaf_sink::{LeafSink, Residuals};
 use pu_code::Grid;
 use px_plane::Size;
-use h265_model::CodingBlock;
 
 // How many samples a unit has in its three components.
 fn sample_count(log2: u32) -> usize

@@ -74,7 +74,10 @@ fn has_source(size: Size, block: CodingBlock, vector: Vector) -> bool
 {
     let n = side(block.log2);
     let (wide, tall) = (coded_side(size.w()), coded_side(size.h()));
-    both(reaches(wide, n, block.x, vector.x), reaches(tall, n, block.y, vector.y))
+    both(
+        reaches(wide, n, block.x, vector.x),
+        reaches(tall, n, block.y, vector.y),
+    )
 }
 
 /// Hands a copy by the merge vector to the sink, where its source lies in the picture.
@@ -134,11 +137,7 @@ fn take_moved<S: LeafSink>(
 }
 
 // Reads the vector of a moved unit, from part_mode to rqt_root_cbf.
-fn read_move(
-    decoder: &mut Decoder,
-    motion: &MotionGrid,
-    block: CodingBlock,
-) -> Option<Vector>
+fn read_move(decoder: &mut Decoder, motion: &MotionGrid, block: CodingBlock) -> Option<Vector>
     requires open { IsOpen decoder.old }
     requires low { 3 ≤ block.log2 }
     requires high { block.log2 ≤ 5 }

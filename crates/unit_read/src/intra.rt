@@ -3,7 +3,7 @@ ghost use Rattle.std.specs.Prelude.{◌≡◌, ◌<◌, ℕ, List, IfSome};
 ghost use Rattle.h265_model.specs.Modes.{AreThree};
 ghost use Rattle.h265_model.specs.Motion.{Moving, leaves};
 ghost use Rattle.h265_model.specs.Tree.{intra_read, candidates_at};
-ghost use Rattle.h265_model.specs.Plain.{block_at};
+ghost use Rattle.h265_model.specs.declared.block.CodingBlock.{CodingBlock};
 ghost use Rattle.cabac_dec.specs.State.{IsOpen, Answers};
 ghost use Rattle.unit_read.specs.Intra.{flags_read, planes_read, intra_of, GivesThree, GivesIntra};
 
@@ -74,7 +74,8 @@ pub(crate) fn read_intra(
     requires second { second.old.log2 ≡ first.old.log2 }
     requires third { third.old.log2 ≡ first.old.log2 }
     ensures value { GivesIntra result first.new.levels second.new.levels third.new.levels (intra_of candidates.now.items first.old.log2 decoder.old) decoder.new }
-    ensures unit { (before : List Moving) (x y : ℕ) → candidates.now.items ≡ candidates_at (leaves before) x y → GivesIntra result first.new.levels second.new.levels third.new.levels (intra_read before (block_at x y first.old.log2) decoder.old) decoder.new }
+    ensures unit { (before : List Moving) (block : CodingBlock) → block.log2 ≡ first.old.log2 → candidates.now.items ≡ candidates_at (leaves before) block.x block.y
+        → GivesIntra result first.new.levels second.new.levels third.new.levels (intra_read before block decoder.old) decoder.new }
     ensures open { IfSome result (λ _. IsOpen decoder.new) }
     ensures mode { IfSome result (λ mode. mode < 35) }
     ensures first { first.new.log2 ≡ first.old.log2 }
