@@ -1,8 +1,8 @@
 -- Coding tree units of a row, each with the flag behind it.
-use Rattle.std.specs.Prelude.{◌≡◌, ℕ, Bool, List, ◌∷◌, Option, Some, None}
+use Rattle.std.specs.Prelude.{◌≡◌, ℕ, ◌+◌, ◌*◌, ◌<◌, ◌==◌, ◌&&◌, Bool, List, ◌∷◌, Option, Some, None}
 use Rattle.h265_model.specs.declared.Place.TheVariants.{Terminate}
 use Rattle.h265_model.specs.declared.leaf.SliceKind.{SliceKind}
-use Rattle.h265_model.specs.Plain.{Size}
+use Rattle.h265_model.specs.Plain.{Size, ctus}
 use Rattle.h265_model.specs.Engine.{Engine, Reader, ◌>>=◌, give}
 use Rattle.h265_model.specs.Motion.{Moving}
 use Rattle.h265_model.specs.Tree.{ReadUnit, ReadCtu, ctu_read, contexts_read, expect, units_of}
@@ -28,3 +28,11 @@ second_of _ = None
 abbrev pub ReadsRow : Option (Option (List ℕ)) → Option (List ReadCtu × Engine) → Engine → (List ReadUnit → Type 0) → Type 0
 ReadsRow None read new Holds = read ≡ None
 ReadsRow (Some handed) read new Holds = (ctus : List ReadCtu) × (read ≡ Some (ctus, new)) × (handed ≡ second_of ctus) × Holds (units_of ctus)
+
+-- the flag behind a coding tree unit of a row, where the last one's is `last`
+abbrev pub ends_at : Bool → ℕ → ℕ → Bool
+ends_at last n i = last && (i + 1 == n)
+
+-- these flags end the row so, and no unit before
+pub record AreEnds (size : Size) (row : ℕ) (last : Bool) (ends : ℕ → Bool) : Type 0 where
+  pub each : (i : ℕ) → i < ctus size.w → ends (row * ctus size.w + i) ≡ ends_at last (ctus size.w) i
