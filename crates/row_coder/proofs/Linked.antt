@@ -13,7 +13,7 @@ use Rattle.h265_model.specs.declared.leaf.SliceKind.{SliceKind}
 use Rattle.h265_model.specs.Plain.{Size, Picture, ctus, joined, terminate_bin, ctu_y}
 use Rattle.h265_model.specs.Contexts.{row_start}
 use Rattle.h265_model.specs.Code.{contexts_after}
-use Rattle.h265_model.specs.Tree.{Source, ctu_items, ctu_with_flag, ctus_items, items_of_row, is_last, source_of, AreLawfulTrees}
+use Rattle.h265_model.specs.Tree.{leaf_units, Source, ctu_items, ctu_with_flag, ctus_items, items_of_row, is_last, source_of, AreLawfulTrees}
 use Rattle.h265_model.specs.Slice.{contexts_at, row_code}
 use Rattle.h265_model.specs.Board.{row_inherits}
 use Rattle.h265_model.specs.Wave.{Jobs, inherited}
@@ -66,13 +66,13 @@ module _ (size : Size) (leaves : List (List Leaf)) where
         (agree_far (suc row * 32) (row * 32) (joined (take (row * w) leaves)) near (omega arith) (far_before (row * w) row (omega arith) (omega arith)))
 
     unit_same : (picture : Picture) (row i : ℕ) → row < ctus size.h → i < w
-        → flagged_ctu kind size (picture_source size picture) (leaves_above size leaves row) (row_leaves size leaves row) row i ≡ ctu_with_flag kind size (source_of size picture) leaves (row * w + i)
+        → flagged_ctu kind size (picture_source size picture) (leaves_above size leaves row) (row_leaves size leaves row) row i ≡ ctu_with_flag (leaf_units kind (source_of size picture)) size (is_last size) leaves (row * w + i)
     unit_same picture row i less few =
         let ctu : ℕ = row * w + i in
         let inside : ctu < w * ctus size.h = in_picture row i w (ctus size.h) less few in
         let y : ctu_y size ctu ≡ row * 32 = ap (λ (k : ℕ). k * 32) (row_of row i few) in
         ap (λ (l : List Item). l ++ terminate_bin (is_last size ctu) ∷ [])
-        (ap (λ (l : List Leaf). ctu_items kind size (picture_source size picture) (leaves_above size leaves row ++ joined (take i (row_leaves size leaves row))) l ctu) (unit_is row i few)
+        (ap (λ (l : List Leaf). ctu_items (leaf_units kind (picture_source size picture)) size (leaves_above size leaves row ++ joined (take i (row_leaves size leaves row))) l ctu) (unit_is row i few)
         ∙ ctu_same kind size picture (leaves_above size leaves row ++ joined (take i (row_leaves size leaves row))) (joined (take ctu leaves)) (get_or leaves ctu []) ctu (lawful.tree ctu inside) (subst (λ (k : ℕ). Agree k (leaves_above size leaves row ++ joined (take i (row_leaves size leaves row))) (joined (take ctu leaves))) (sym y) (agrees row i less (omega arith))))
 
     same_units : (f g : ℕ → List Item) (a n : ℕ) → ((i : ℕ) → i < a + n → f i ≡ g i) → flat_map f (range_with_len a n) ≡ flat_map g (range_with_len a n)
@@ -80,12 +80,12 @@ module _ (size : Size) (leaves : List (List Leaf)) where
     same_units f g a (suc n) h = rw (h a (omega arith), same_units f g (a + 1) n (λ i k. h i (omega arith))) refl
 
     first_same : (picture : Picture) (row n : ℕ) → row < ctus size.h → n ≤ w
-        → first_ctus kind size (picture_source size picture) (leaves_above size leaves row) (row_leaves size leaves row) row n ≡ ctus_items kind size (source_of size picture) leaves row n
+        → first_ctus kind size (picture_source size picture) (leaves_above size leaves row) (row_leaves size leaves row) row n ≡ ctus_items (leaf_units kind (source_of size picture)) size (is_last size) leaves row n
     unfolding first_ctus
     first_same picture row n less few = same_units _ _ 0 n (λ i k. unit_same picture row i less (omega arith))
 
     whole_same : (picture : Picture) (row : ℕ) → row < ctus size.h
-        → whole_row kind size (picture_source size picture) (leaves_above size leaves row) (row_leaves size leaves row) row ≡ items_of_row kind size (source_of size picture) leaves row
+        → whole_row kind size (picture_source size picture) (leaves_above size leaves row) (row_leaves size leaves row) row ≡ items_of_row (leaf_units kind (source_of size picture)) size leaves row
     unfolding items_of_row
     whole_same picture row less = ap (λ (l : List Item). l ++ cond (row + 1 == ctus size.h) [] (terminate_bin true ∷ [])) (first_same picture row w less (omega arith))
 
@@ -99,36 +99,36 @@ module _ (planes : Planes) (kind : SliceKind) (leaves : List (List Leaf)) (are :
   source = source_of planes.size (picture_of planes)
 
   second_is : (row : ℕ) (r : Row) (inherits : Option (List ℕ)) → row < ctus planes.size.h → 2 ≤ ctus planes.size.w → IsRowOf planes kind leaves row r
-      → first_contexts kind (ctus planes.size.w) row inherits ≡ contexts_at kind planes.size source leaves row
-      → (plan_of r).second inherits ≡ contexts_after (ctus_items kind planes.size source leaves row 2) (contexts_at kind planes.size source leaves row)
+      → first_contexts kind (ctus planes.size.w) row inherits ≡ contexts_at kind (leaf_units kind source) planes.size leaves row
+      → (plan_of r).second inherits ≡ contexts_after (ctus_items (leaf_units kind source) planes.size (is_last planes.size) leaves row 2) (contexts_at kind (leaf_units kind source) planes.size leaves row)
   unfolding plan_of
   second_is row r inherits less two is starts =
       rw (is.planes_are, is.kind_is, is.number_is, is.above_is, is.plans_are, first_same planes.size leaves kind are.wide are.lawful (picture_of planes) row 2 less two, starts) refl
 
   bytes_is : (row : ℕ) (r : Row) (inherits : Option (List ℕ)) → row < ctus planes.size.h → IsRowOf planes kind leaves row r
-      → first_contexts kind (ctus planes.size.w) row inherits ≡ contexts_at kind planes.size source leaves row
-      → (plan_of r).bytes inherits ≡ row_code kind planes.size source leaves row
+      → first_contexts kind (ctus planes.size.w) row inherits ≡ contexts_at kind (leaf_units kind source) planes.size leaves row
+      → (plan_of r).bytes inherits ≡ row_code kind (leaf_units kind source) planes.size leaves row
   unfolding plan_of
   bytes_is row r inherits less is starts =
       rw (is.planes_are, is.kind_is, is.number_is, is.above_is, is.plans_are, whole_same planes.size leaves kind are.wide are.lawful (picture_of planes) row less, starts) refl
 
   -- the first row, and a row in a picture of one column, starts from the contexts of a slice
-  starts_first : first_contexts kind (ctus planes.size.w) 0 None ≡ contexts_at kind planes.size source leaves 0
+  starts_first : first_contexts kind (ctus planes.size.w) 0 None ≡ contexts_at kind (leaf_units kind source) planes.size leaves 0
   unfolding contexts_at row_start
   starts_first = refl
 
-  starts_narrow : (row : ℕ) → ctus planes.size.w ≡ 1 → first_contexts kind (ctus planes.size.w) (suc row) None ≡ contexts_at kind planes.size source leaves (suc row)
+  starts_narrow : (row : ℕ) → ctus planes.size.w ≡ 1 → first_contexts kind (ctus planes.size.w) (suc row) None ≡ contexts_at kind (leaf_units kind source) planes.size leaves (suc row)
   unfolding contexts_at row_start
   starts_narrow row e = sym (cond-false (nat_le 2 (ctus planes.size.w)) _ _ (lt-leb _ _ (omega arith)))
 
-  starts_next : (row : ℕ) (above : List ℕ) → 2 ≤ ctus planes.size.w → above ≡ contexts_after (ctus_items kind planes.size source leaves row 2) (contexts_at kind planes.size source leaves row)
-      → first_contexts kind (ctus planes.size.w) (suc row) (Some above) ≡ contexts_at kind planes.size source leaves (suc row)
+  starts_next : (row : ℕ) (above : List ℕ) → 2 ≤ ctus planes.size.w → above ≡ contexts_after (ctus_items (leaf_units kind source) planes.size (is_last planes.size) leaves row 2) (contexts_at kind (leaf_units kind source) planes.size leaves row)
+      → first_contexts kind (ctus planes.size.w) (suc row) (Some above) ≡ contexts_at kind (leaf_units kind source) planes.size leaves (suc row)
   unfolding contexts_at
   starts_next row above two e = ap (λ (c : List ℕ). row_start kind (ctus planes.size.w) (suc row) c) e
 
   next : (row : ℕ) (b : Bool) (above : List ℕ) → (ctus planes.size.w == 1) ≡ b
-      → (2 ≤ ctus planes.size.w → above ≡ contexts_after (ctus_items kind planes.size source leaves row 2) (contexts_at kind planes.size source leaves row))
-      → first_contexts kind (ctus planes.size.w) (suc row) (cond b None (Some above)) ≡ contexts_at kind planes.size source leaves (suc row)
+      → (2 ≤ ctus planes.size.w → above ≡ contexts_after (ctus_items (leaf_units kind source) planes.size (is_last planes.size) leaves row 2) (contexts_at kind (leaf_units kind source) planes.size leaves row))
+      → first_contexts kind (ctus planes.size.w) (suc row) (cond b None (Some above)) ≡ contexts_at kind (leaf_units kind source) planes.size leaves (suc row)
   next row true above e f = starts_narrow row (eqb-true _ _ e)
   next row false above e f =
       let two : 2 ≤ ctus planes.size.w = (let one = eqb-false _ _ e in let some = are.wide in wide_two (ctus planes.size.w) some one) in
@@ -140,13 +140,13 @@ module _ (planes : Planes) (kind : SliceKind) (leaves : List (List Leaf)) (are :
       wide_two (suc (suc n)) h k = omega arith
 
   row_coded : (row : ℕ) (r : Row) (inherits : Option (List ℕ)) → row < ctus planes.size.h → IsRowOf planes kind leaves row r
-      → first_contexts kind (ctus planes.size.w) row inherits ≡ contexts_at kind planes.size source leaves row → IsCodedRow planes kind leaves row r inherits
+      → first_contexts kind (ctus planes.size.w) row inherits ≡ contexts_at kind (leaf_units kind source) planes.size leaves row → IsCodedRow planes kind leaves row r inherits
   row_coded row r inherits less is starts = record { starts = starts; gives = bytes_is row r inherits less is starts }
 
   module _ (rows : ℕ → Row) (each : (row : ℕ) → row < ctus planes.size.h → IsRowOf planes kind leaves row (rows row)) where
     board_starts : (want : List (List ℕ))
         → ((row : ℕ) → row < ctus planes.size.h → 2 ≤ ctus planes.size.w → slice_index_or want row [] ≡ (plan_of (rows row)).second (row_inherits (ctus planes.size.w) want row))
-        → (row : ℕ) → row < ctus planes.size.h → first_contexts kind (ctus planes.size.w) row (row_inherits (ctus planes.size.w) want row) ≡ contexts_at kind planes.size source leaves row
+        → (row : ℕ) → row < ctus planes.size.h → first_contexts kind (ctus planes.size.w) row (row_inherits (ctus planes.size.w) want row) ≡ contexts_at kind (leaf_units kind source) planes.size leaves row
     board_starts want wants zero less = starts_first
     board_starts want wants (suc row) less =
         next row (ctus planes.size.w == 1) (slice_index_or want row []) refl
@@ -155,7 +155,7 @@ module _ (planes : Planes) (kind : SliceKind) (leaves : List (List Leaf)) (are :
     abbrev jobs : Jobs
     jobs = record { width = ctus planes.size.w; second = λ r. (plan_of (rows r)).second; bytes = λ r. (plan_of (rows r)).bytes }
 
-    job_starts : (row : ℕ) → row < ctus planes.size.h → first_contexts kind (ctus planes.size.w) row (inherited jobs row) ≡ contexts_at kind planes.size source leaves row
+    job_starts : (row : ℕ) → row < ctus planes.size.h → first_contexts kind (ctus planes.size.w) row (inherited jobs row) ≡ contexts_at kind (leaf_units kind source) planes.size leaves row
     unfolding inherited
     job_starts zero less = starts_first
     job_starts (suc row) less =

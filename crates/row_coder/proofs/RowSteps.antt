@@ -11,7 +11,7 @@ use Rattle.h265_model.specs.declared.leaf.Leaf.{Leaf}
 use Rattle.h265_model.specs.declared.leaf.SliceKind.{SliceKind}
 use Rattle.h265_model.specs.Plain.{Size, ctus, below, joined, terminate_bin}
 use Rattle.h265_model.specs.Code.{Plain, Ended, phase_after, code, contexts_after}
-use Rattle.h265_model.specs.Tree.{Source, ctu_items, is_last, IsLawfulTree}
+use Rattle.h265_model.specs.Tree.{leaf_units, Source, ctu_items, is_last, IsLawfulTree}
 use Rattle.h265_model.specs.Tiles.{tile_count}
 use Rattle.arrayvec.specs.ArrayVec.{ArrayVec}
 use Rattle.px_plane.specs.Planes.{Planes, picture_of}
@@ -70,17 +70,17 @@ module _ (planes : Planes) (kind : SliceKind) (number : ℕ) (above : List Leaf)
       ∙ ap (λ (l : List Leaf). above ++ l) (ap (λ (l : List Leaf). joined (take n plans) ++ l) here ∙ (sym (joined_take plans n) ∙ ap (λ (k : ℕ). joined (take k plans)) (sym next)))
 
   flagged : (n ctu : ℕ) (leaves : List Leaf) (last : Bool) → leaves ≡ get_or plans n [] → ctu ≡ number * ctus planes.size.w + n → last ≡ is_last planes.size ctu
-      → ctu_items kind planes.size source (above ++ joined (take n plans)) leaves ctu ++ terminate_bin last ∷ [] ≡ flagged_ctu kind planes.size source above plans number n
+      → ctu_items (leaf_units kind source) planes.size (above ++ joined (take n plans)) leaves ctu ++ terminate_bin last ∷ [] ≡ flagged_ctu kind planes.size source above plans number n
   flagged n ctu leaves last a b d =
-      ap (λ (l : Bool). ctu_items kind planes.size source (above ++ joined (take n plans)) leaves ctu ++ terminate_bin l ∷ []) d
-      ∙ (ap (λ (k : ℕ). ctu_items kind planes.size source (above ++ joined (take n plans)) leaves k ++ terminate_bin (is_last planes.size k) ∷ []) b
-      ∙ ap (λ (l : List Leaf). ctu_items kind planes.size source (above ++ joined (take n plans)) l (number * ctus planes.size.w + n) ++ terminate_bin (is_last planes.size (number * ctus planes.size.w + n)) ∷ []) a)
+      ap (λ (l : Bool). ctu_items (leaf_units kind source) planes.size (above ++ joined (take n plans)) leaves ctu ++ terminate_bin l ∷ []) d
+      ∙ (ap (λ (k : ℕ). ctu_items (leaf_units kind source) planes.size (above ++ joined (take n plans)) leaves k ++ terminate_bin (is_last planes.size k) ∷ []) b
+      ∙ ap (λ (l : List Leaf). ctu_items (leaf_units kind source) planes.size (above ++ joined (take n plans)) l (number * ctus planes.size.w + n) ++ terminate_bin (is_last planes.size (number * ctus planes.size.w + n)) ∷ []) a)
 
   one_list : (n ctu : ℕ) (leaves : List Leaf) (last : Bool) → leaves ≡ get_or plans n [] → ctu ≡ number * ctus planes.size.w + n → last ≡ is_last planes.size ctu
-      → (so_far n ++ ctu_items kind planes.size source (above ++ joined (take n plans)) leaves ctu) ++ terminate_bin last ∷ [] ≡ so_far (n + 1)
+      → (so_far n ++ ctu_items (leaf_units kind source) planes.size (above ++ joined (take n plans)) leaves ctu) ++ terminate_bin last ∷ [] ≡ so_far (n + 1)
   one_list n ctu leaves last a b d =
       let next : n + 1 ≡ suc n = omega arith in
-      append_assoc (so_far n) (ctu_items kind planes.size source (above ++ joined (take n plans)) leaves ctu) (terminate_bin last ∷ [])
+      append_assoc (so_far n) (ctu_items (leaf_units kind source) planes.size (above ++ joined (take n plans)) leaves ctu) (terminate_bin last ∷ [])
       ∙ (ap (λ (l : List Item). so_far n ++ l) (flagged n ctu leaves last a b d)
       ∙ (sym (one_ctu_more kind planes.size source above plans number n) ∙ ap (λ (k : ℕ). so_far k) (sym next)))
 
@@ -92,7 +92,7 @@ module _ (planes : Planes) (kind : SliceKind) (number : ℕ) (above : List Leaf)
   pub coded_more : (grid : Option Cells) (used next : Cells) (coder mid new : State) (n ctu : ℕ) (leaves : List Leaf) (last : Bool) → n < ctus planes.size.w → ctu ≡ number * ctus planes.size.w + n
       → leaves ≡ get_or plans n [] → last ≡ is_last planes.size ctu → IsCoded planes kind number above plans inherited grid coder n
       → IsKept planes.size (above ++ joined (take n plans)) n (Some used) → next.size ≡ used.size
-      → ((before : List Leaf) → StandsFor used before → Grew (ctu_items kind planes.size source before leaves ctu) (stands_for coder) (stands_for mid))
+      → ((before : List Leaf) → StandsFor used before → Grew (ctu_items (leaf_units kind source) planes.size before leaves ctu) (stands_for coder) (stands_for mid))
       → Grew (terminate_bin last ∷ []) (stands_for mid) (stands_for new)
       → phase_of new ≡ phase_after Terminate last
       → ((before : List Leaf) → StandsFor used before → StandsFor next (before ++ leaves))
@@ -100,7 +100,7 @@ module _ (planes : Planes) (kind : SliceKind) (number : ℕ) (above : List Leaf)
   coded_more grid used next coder mid new n ctu leaves last less place here is so kept size taken flag phase set =
       let at : last ≡ is_last planes.size (number * ctus planes.size.w + n) = is ∙ ap (is_last planes.size) place in
       let before : List Leaf = above ++ joined (take n plans) in
-      let list : List Item = ctu_items kind planes.size source before leaves ctu in
+      let list : List Item = ctu_items (leaf_units kind source) planes.size before leaves ctu in
       record {
         within = omega arith;
         units = so.units;
@@ -217,10 +217,10 @@ pub tree_as : (a b : Size) (i j : ℕ) (l m : List Leaf) → a ≡ b → i ≡ j
 tree_as a b i j l m e f g t = subst (λ (z : Size). IsLawfulTree z i l) (sym e) (subst (λ (k : ℕ). IsLawfulTree b k l) (sym f) (subst (λ (x : List Leaf). IsLawfulTree b j x) (sym g) t))
 
 pub taken_as : (kind : SliceKind) (a b : Size) (p q : Planes) (before leaves : List Leaf) (ctu : ℕ) (x y : Meaning) → a ≡ b → p ≡ q
-    → Grew (ctu_items kind a (picture_source p.size (picture_of p)) before leaves ctu) x y → Grew (ctu_items kind b (picture_source q.size (picture_of q)) before leaves ctu) x y
+    → Grew (ctu_items (leaf_units kind (picture_source p.size (picture_of p))) a before leaves ctu) x y → Grew (ctu_items (leaf_units kind (picture_source q.size (picture_of q))) b before leaves ctu) x y
 taken_as kind a b p q before leaves ctu x y e f g =
-    subst (λ (z : Planes). Grew (ctu_items kind b (picture_source z.size (picture_of z)) before leaves ctu) x y) f
-    (subst (λ (z : Size). Grew (ctu_items kind z (picture_source p.size (picture_of p)) before leaves ctu) x y) e g)
+    subst (λ (z : Planes). Grew (ctu_items (leaf_units kind (picture_source z.size (picture_of z))) b before leaves ctu) x y) f
+    (subst (λ (z : Size). Grew (ctu_items (leaf_units kind (picture_source p.size (picture_of p))) z before leaves ctu) x y) e g)
 
 pub last_is : (ctu a b : ℕ) (size : Size) → a ≡ ctus size.w → b ≡ ctus size.h → (ctu + 1 == a * b) ≡ is_last size ctu
 last_is ctu a b size e f = rw (e, f) refl

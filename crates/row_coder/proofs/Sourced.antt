@@ -24,18 +24,18 @@ map_zeros : (n : ℕ) → replicate n (pos 0) ≡ map pos (replicate n 0)
 map_zeros zero = refl
 map_zeros (suc n) = ap (λ (l : List ℤ). pos 0 ∷ l) (map_zeros n)
 
-pub levels_some : (size : Size) (picture : Picture) (leaf : Leaf) (component mode : ℕ) (block : Square) → leaf.kind ≡ Intra mode → (is_placed size leaf && is_predicted leaf.kind) ≡ true → block.log2 ≡ leaf.log2
-    → block.levels ≡ differences (samples_in picture leaf component) (prediction size picture mode component leaf.x leaf.y leaf.log2) → AreLevels block.levels
+pub levels_some : (size : Size) (picture : Picture) (leaf : Leaf) (component mode : ℕ) (block : Square) → leaf.kind ≡ Intra mode → (is_placed size leaf && is_predicted leaf.kind) ≡ true → block.log2 ≡ leaf.block.log2
+    → block.levels ≡ differences (samples_in picture leaf component) (prediction size picture mode component leaf.block) → AreLevels block.levels
     → HasLevels (picture_source size picture) leaf component block
 unfolding picture_source
 levels_some size picture leaf component mode block kind h side e fit = record {
   side = side;
-  levels = e ∙ (ap (λ (k : Kind). differences (samples_in picture leaf component) (prediction size picture (mode_of k) component leaf.x leaf.y leaf.log2)) (sym kind)
+  levels = e ∙ (ap (λ (k : Kind). differences (samples_in picture leaf component) (prediction size picture (mode_of k) component leaf.block)) (sym kind)
       ∙ sym (cond-true (is_placed size leaf && is_predicted leaf.kind) _ _ h));
   fit = fit;
 }
 
-pub levels_none : (size : Size) (picture : Picture) (leaf : Leaf) (component log2 : ℕ) (block : Square) → (is_placed size leaf && is_predicted leaf.kind) ≡ false → log2 ≡ leaf.log2
+pub levels_none : (size : Size) (picture : Picture) (leaf : Leaf) (component log2 : ℕ) (block : Square) → (is_placed size leaf && is_predicted leaf.kind) ≡ false → log2 ≡ leaf.block.log2
     → block ≡ record { log2 = log2; levels = replicate (area log2) (pos 0) } → HasLevels (picture_source size picture) leaf component block
 unfolding picture_source
 levels_none size picture leaf component log2 block h side e = record {
@@ -44,7 +44,7 @@ levels_none size picture leaf component log2 block h side e = record {
   fit = subst AreLevels (sym (ap (λ (b : Square). b.levels) e)) (zeros_are (area log2));
 }
 
-pub samples_some : (size : Size) (picture : Picture) (leaf : Leaf) (component : ℕ) (block : Square) → is_placed size leaf ≡ true → block.log2 ≡ leaf.log2
+pub samples_some : (size : Size) (picture : Picture) (leaf : Leaf) (component : ℕ) (block : Square) → is_placed size leaf ≡ true → block.log2 ≡ leaf.block.log2
     → block.levels ≡ map pos (samples_in picture leaf component) → AreBytes (samples_in picture leaf component)
     → HasSamples (picture_source size picture) leaf component block
 unfolding picture_source
@@ -54,11 +54,11 @@ samples_some size picture leaf component block h side e bytes = record {
   fit = subst AreBytes (sym (cond-true (is_placed size leaf) _ _ h)) bytes;
 }
 
-pub samples_none : (size : Size) (picture : Picture) (leaf : Leaf) (component log2 : ℕ) (block : Square) → is_placed size leaf ≡ false → log2 ≡ leaf.log2
+pub samples_none : (size : Size) (picture : Picture) (leaf : Leaf) (component log2 : ℕ) (block : Square) → is_placed size leaf ≡ false → log2 ≡ leaf.block.log2
     → block ≡ record { log2 = log2; levels = replicate (area log2) (pos 0) } → HasSamples (picture_source size picture) leaf component block
 unfolding picture_source
 samples_none size picture leaf component log2 block h side e = record {
   side = ap (λ (b : Square). b.log2) e ∙ side;
   samples = ap (λ (b : Square). b.levels) e ∙ (map_zeros (area log2) ∙ (ap (λ (k : ℕ). map pos (replicate (area k) 0)) side ∙ ap (λ (l : List ℕ). map pos l) (sym (cond-false (is_placed size leaf) _ _ h))));
-  fit = subst AreBytes (sym (cond-false (is_placed size leaf) _ _ h)) (zero_bytes (area leaf.log2));
+  fit = subst AreBytes (sym (cond-false (is_placed size leaf) _ _ h)) (zero_bytes (area leaf.block.log2));
 }

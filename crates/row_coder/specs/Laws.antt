@@ -3,7 +3,7 @@ use Rattle.std.specs.Prelude.{◌≡◌, ◌<◌, ◌≤◌, ℕ, zero, suc, ◌
 use Rattle.h265_model.specs.declared.leaf.Leaf.{Leaf}
 use Rattle.h265_model.specs.declared.leaf.SliceKind.{SliceKind}
 use Rattle.h265_model.specs.Plain.{Size, ctus, joined}
-use Rattle.h265_model.specs.Tree.{source_of, AreLawfulTrees}
+use Rattle.h265_model.specs.Tree.{leaf_units, source_of, AreLawfulTrees}
 use Rattle.h265_model.specs.Slice.{contexts_at, row_code}
 use Rattle.h265_model.specs.Board.{row_inherits}
 use Rattle.h265_model.specs.Wave.{inherited}
@@ -33,8 +33,8 @@ pub record ArePictureLeaves (planes : Planes) (kind : SliceKind) (leaves : List 
 
 -- what the row starts from and gives is the slice's
 pub record IsCodedRow (planes : Planes) (kind : SliceKind) (leaves : List (List Leaf)) (row : ℕ) (r : Row) (inherits : Option (List ℕ)) : Type 0 where
-  pub starts : first_contexts kind (ctus planes.size.w) row inherits ≡ contexts_at kind planes.size (source_of planes.size (picture_of planes)) leaves row
-  pub gives : (plan_of r).bytes inherits ≡ row_code kind planes.size (source_of planes.size (picture_of planes)) leaves row
+  pub starts : first_contexts kind (ctus planes.size.w) row inherits ≡ contexts_at kind (leaf_units kind (source_of planes.size (picture_of planes))) planes.size leaves row
+  pub gives : (plan_of r).bytes inherits ≡ row_code kind (leaf_units kind (source_of planes.size (picture_of planes))) planes.size leaves row
 
 -- with the contexts that the rows above hand on, by their plans
 abbrev pub EachRowIsCoded : Type 0

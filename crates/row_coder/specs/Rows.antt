@@ -7,7 +7,7 @@ use Rattle.h265_model.specs.declared.leaf.SliceKind.{SliceKind}
 use Rattle.h265_model.specs.Plain.{Size, ctus, below, joined, terminate_bin}
 use Rattle.h265_model.specs.Contexts.{start, row_start}
 use Rattle.h265_model.specs.Code.{code, contexts_after, Ended}
-use Rattle.h265_model.specs.Tree.{Source, ctu_items, is_last, IsLawfulTree, AreAllowed}
+use Rattle.h265_model.specs.Tree.{leaf_units, Source, ctu_items, is_last, IsLawfulTree, AreAllowed}
 use Rattle.px_plane.specs.Planes.{Planes, picture_of}
 use Rattle.arrayvec.specs.ArrayVec.{ArrayVec}
 use Rattle.bin_items.specs.Growth.{IsOpen}
@@ -20,7 +20,7 @@ use Rattle.row_coder.specs.Sources.{picture_source}
 -- above are those that are known of the row above
 abbrev pub flagged_ctu : SliceKind → Size → Source → List Leaf → List (List Leaf) → ℕ → ℕ → List Item
 flagged_ctu kind size source above plans row i =
-    ctu_items kind size source (above ++ joined (take i plans)) (get_or plans i []) (row * ctus size.w + i) ++ terminate_bin (is_last size (row * ctus size.w + i)) ∷ []
+    ctu_items (leaf_units kind source) size (above ++ joined (take i plans)) (get_or plans i []) (row * ctus size.w + i) ++ terminate_bin (is_last size (row * ctus size.w + i)) ∷ []
 
 -- those of the first n coding tree units
 unfoldable pub first_ctus : SliceKind → Size → Source → List Leaf → List (List Leaf) → ℕ → ℕ → List Item

@@ -31,25 +31,25 @@ fn side(log2: u32) -> u32
 
 // Whether a coding unit begins at multiples of its side and lies wholly in the coded picture.
 fn is_placed(size: Size, leaf: Leaf) -> bool
-    requires low { 3 ≤ leaf.log2 }
-    requires high { leaf.log2 ≤ 5 }
+    requires low { 3 ≤ leaf.block.log2 }
+    requires high { leaf.block.log2 ≤ 5 }
     ensures value { result ≡ is_placed size leaf }
     ensures placed { result ≡ true → IsPlaced size leaf }
 {
-    let side = 1u32 << leaf.log2;
+    let side = 1u32 << leaf.block.log2;
     let (w, h) = ((size.w() + 7) / 8 * 8, (size.h() + 7) / 8 * 8);
-    leaf.x % side == 0
-        && leaf.y % side == 0
-        && leaf.x <= w
-        && leaf.x + side <= w
-        && leaf.y <= h
-        && leaf.y + side <= h
+    leaf.block.x % side == 0
+        && leaf.block.y % side == 0
+        && leaf.block.x <= w
+        && leaf.block.x + side <= w
+        && leaf.block.y <= h
+        && leaf.block.y + side <= h
 }
 
 // The mode of a coding unit, where it has one and its block is predicted.
 fn predicted_mode(size: Size, leaf: Leaf) -> Option<u32>
-    requires low { 3 ≤ leaf.log2 }
-    requires high { leaf.log2 ≤ 5 }
+    requires low { 3 ≤ leaf.block.log2 }
+    requires high { leaf.block.log2 ≤ 5 }
     ensures some { IfSome result (λ mode. (leaf.kind ≡ Intra mode) × (mode < 35) × IsPlaced size leaf × ((is_placed size leaf && is_predicted leaf.kind) ≡ true)) }
     ensures none { IsNone result → (is_placed size leaf && is_predicted leaf.kind) ≡ false }
 {
@@ -69,11 +69,11 @@ fn predict_block(picture: &Picture, component: u32, leaf: Leaf, mode: u32, guess
     requires component { component < 3 }
     requires mode { mode < 35 }
     requires placed { IsPlaced picture.now.size leaf }
-    requires block { length guess.old ≡ 2 ^ leaf.log2 * 2 ^ leaf.log2 }
-    ensures { guess.new ≡ prediction picture.now.size (picture_of picture.now) mode component leaf.x leaf.y leaf.log2 }
+    requires block { length guess.old ≡ 2 ^ leaf.block.log2 * 2 ^ leaf.block.log2 }
+    ensures { guess.new ≡ prediction picture.now.size (picture_of picture.now) mode component leaf.block }
 {
-    let plain = refs(picture, component, leaf.x, leaf.y, leaf.log2);
-    if filtered(mode, leaf.log2) {
+    let plain = refs(picture, component, leaf.block);
+    if filtered(mode, leaf.block.log2) {
         predict(mode, component, &filter(&plain), guess);
     } else {
         predict(mode, component, &plain, guess);
@@ -105,19 +105,19 @@ fn subtract_row(samples: &[u8], guess: &[u8], out: &mut [i16])
 fn subtract_block(picture: &Picture, component: u32, leaf: Leaf, guess: &[u8], out: &mut Block)
     requires component { component < 3 }
     requires placed { IsPlaced picture.now.size leaf }
-    requires block { length guess.now ≡ 2 ^ leaf.log2 * 2 ^ leaf.log2 }
-    requires side { out.old.log2 ≡ leaf.log2 }
-    ensures side { out.new.log2 ≡ leaf.log2 }
+    requires block { length guess.now ≡ 2 ^ leaf.block.log2 * 2 ^ leaf.block.log2 }
+    requires side { out.old.log2 ≡ leaf.block.log2 }
+    ensures side { out.new.log2 ≡ leaf.block.log2 }
     ensures levels { out.new.levels ≡ differences (samples_in (picture_of picture.now) leaf component) guess.now }
     ensures bytes { AreBytes (samples_in (picture_of picture.now) leaf component) }
     ensures fit { AreLevels out.new.levels }
 {
-    let n = side(leaf.log2);
+    let n = side(leaf.block.log2);
     let mut values = [0i16; 32];
     let row = &mut values[..n as usize];
     for y in 0..n {
         let at = (y * n) as usize;
-        let samples = picture.row(component, leaf.x, leaf.y + y, n);
+        let samples = picture.row(component, leaf.block.x, leaf.block.y + y, n);
         subtract_row(samples, &guess[at..at + n as usize], row);
         out.set_row(y, row);
     }
@@ -129,13 +129,13 @@ fn fill_predicted(picture: &Picture, component: u32, leaf: Leaf, mode: u32, out:
     requires component { component < 3 }
     requires mode { mode < 35 }
     requires placed { IsPlaced picture.now.size leaf }
-    requires side { out.old.log2 ≡ leaf.log2 }
-    ensures side { out.new.log2 ≡ leaf.log2 }
+    requires side { out.old.log2 ≡ leaf.block.log2 }
+    ensures side { out.new.log2 ≡ leaf.block.log2 }
     ensures levels { out.new.levels ≡ differences (samples_in (picture_of picture.now) leaf component)
-        (prediction picture.now.size (picture_of picture.now) mode component leaf.x leaf.y leaf.log2) }
+        (prediction picture.now.size (picture_of picture.now) mode component leaf.block) }
     ensures fit { AreLevels out.new.levels }
 {
-    let n = side(leaf.log2);
+    let n = side(leaf.block.log2);
     let mut samples = [0u8; 1024];
     let guess = &mut samples[..(n * n) as usize];
     predict_block(picture, component, leaf, mode, guess);
@@ -146,12 +146,12 @@ fn fill_predicted(picture: &Picture, component: u32, leaf: Leaf, mode: u32, out:
 fn fill_plain(picture: &Picture, component: u32, leaf: Leaf, out: &mut Block)
     requires component { component < 3 }
     requires placed { IsPlaced picture.now.size leaf }
-    requires side { out.old.log2 ≡ leaf.log2 }
-    ensures side { out.new.log2 ≡ leaf.log2 }
+    requires side { out.old.log2 ≡ leaf.block.log2 }
+    ensures side { out.new.log2 ≡ leaf.block.log2 }
     ensures samples { out.new.levels ≡ map pos (samples_in (picture_of picture.now) leaf component) }
     ensures bytes { AreBytes (samples_in (picture_of picture.now) leaf component) }
 {
-    let n = side(leaf.log2);
+    let n = side(leaf.block.log2);
     let nothing = [0u8; 1024];
     subtract_block(picture, component, leaf, &nothing[..(n * n) as usize], out);
 }
@@ -159,7 +159,7 @@ fn fill_plain(picture: &Picture, component: u32, leaf: Leaf, out: &mut Block)
 /// Fills a block with the levels of a coding unit.
 pub(crate) fn fill_levels(picture: &Picture, component: u32, leaf: Leaf, out: &mut Block)
     requires component { component < 3 }
-    requires side { out.old.log2 ≡ leaf.log2 }
+    requires side { out.old.log2 ≡ leaf.block.log2 }
     ensures { HasLevels (picture_source picture.now.size (picture_of picture.now)) leaf component out.new }
 {
     let log2 = out.log2();
@@ -172,7 +172,7 @@ pub(crate) fn fill_levels(picture: &Picture, component: u32, leaf: Leaf, out: &m
 /// Fills a block with the samples of a coding unit.
 pub(crate) fn fill_samples(picture: &Picture, component: u32, leaf: Leaf, out: &mut Block)
     requires component { component < 3 }
-    requires side { out.old.log2 ≡ leaf.log2 }
+    requires side { out.old.log2 ≡ leaf.block.log2 }
     ensures { HasSamples (picture_source picture.now.size (picture_of picture.now)) leaf component out.new }
 {
     let log2 = out.log2();

@@ -9,6 +9,7 @@ use crate::{CtuRow, Leaf, Leaves, NoMemory, PictureLevels, SliceKind};
 use bin_items::{Block, Kind};
 use block_choice::plan_ctu;
 use coding_tree::LevelSource;
+use h265_model::CodingBlock;
 use px_plane::{Picture, Rect, Rgb, Size, Steps};
 use row_core::{Contexts, RowJob};
 use std::alloc::Global;
@@ -196,7 +197,7 @@ fn bytes_of_rows(rt: HostRuntime) -> Result<(), Fail> {
 // The levels and the samples at the first and the last place of a unit.
 fn corners(source: &mut PictureLevels, leaf: Leaf, component: u32) -> [i16; 4]
     requires component { component < 3 }
-    requires side { leaf.log2 ≡ 3 }
+    requires side { leaf.block.log2 ≡ 3 }
 {
     let mut levels = Block::zero(3);
     let mut samples = Block::zero(3);
@@ -226,9 +227,7 @@ fn levels_of_units(rt: HostRuntime) -> Result<(), Fail> {
         (0, 40, Kind::Pcm, 0, [0; 4]),
     ] {
         let leaf = Leaf {
-            x,
-            y,
-            log2: 3,
+            block: CodingBlock { x, y, log2: 3 },
             kind,
         };
         assert!(rt; component < 3);

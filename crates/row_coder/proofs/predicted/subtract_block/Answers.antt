@@ -9,7 +9,7 @@ pub loop-y-preserved : goal.loop-y-preserved
 loop-y-preserved c =
     let n : ℕ = c.side-n.result in
     let y : ℕ = c.loop-y.y in
-    let f : ℕ → ℕ → ℕ = λ i j. picture_of c.args.picture.now c.args.component (c.args.leaf.x + i) (c.args.leaf.y + j) in
+    let f : ℕ → ℕ → ℕ = λ i j. picture_of c.args.picture.now c.args.component (c.args.leaf.block.x + i) (c.args.leaf.block.y + j) in
     let size : y * n + n - y * n ≡ n = omega arith in
     let e : n ≡ 2 ^ c.loop-y.out.log2 = c.side-n.ensures.value ∙ ap (λ (k : ℕ). 2 ^ k) (sym c.loop-y.invariant.side) in
     let wide : length c.args.guess.now ≡ n * n = c.requires.block ∙ ap (λ (k : ℕ). k * k) (sym c.side-n.ensures.value) in
@@ -24,8 +24,8 @@ loop-y-preserved c =
 pub returns-clause-levels : goal.returns-clause-levels
 returns-clause-levels c =
     let n : ℕ = c.side-n.result in
-    let f : ℕ → ℕ → ℕ = λ i j. picture_of c.args.picture.now c.args.component (c.args.leaf.x + i) (c.args.leaf.y + j) in
-    let e : n ≡ 2 ^ c.args.leaf.log2 = c.side-n.ensures.value in
+    let f : ℕ → ℕ → ℕ = λ i j. picture_of c.args.picture.now c.args.component (c.args.leaf.block.x + i) (c.args.leaf.block.y + j) in
+    let e : n ≡ 2 ^ c.args.leaf.block.log2 = c.side-n.ensures.value in
     let wide : length c.args.guess.now ≡ n * n = c.requires.block ∙ ap (λ (k : ℕ). k * k) (sym e) in
     let long : length c.loop-y.out.levels ≡ n * n = c.log2-log2.ensures.whole ∙ ap (λ (k : ℕ). k * k) (ap (λ (k : ℕ). 2 ^ k) c.loop-y.invariant.side ∙ sym e) in
     rw (← e) (rows_all n c.loop-y.y f c.args.guess.now c.loop-y.out.levels (omega arith) long wide c.loop-y.invariant.rows).0
@@ -33,8 +33,8 @@ returns-clause-levels c =
 pub returns-clause-bytes : goal.returns-clause-bytes
 returns-clause-bytes c =
     let n : ℕ = c.side-n.result in
-    let f : ℕ → ℕ → ℕ = λ i j. picture_of c.args.picture.now c.args.component (c.args.leaf.x + i) (c.args.leaf.y + j) in
-    let e : n ≡ 2 ^ c.args.leaf.log2 = c.side-n.ensures.value in
+    let f : ℕ → ℕ → ℕ = λ i j. picture_of c.args.picture.now c.args.component (c.args.leaf.block.x + i) (c.args.leaf.block.y + j) in
+    let e : n ≡ 2 ^ c.args.leaf.block.log2 = c.side-n.ensures.value in
     let wide : length c.args.guess.now ≡ n * n = c.requires.block ∙ ap (λ (k : ℕ). k * k) (sym e) in
     let long : length c.loop-y.out.levels ≡ n * n = c.log2-log2.ensures.whole ∙ ap (λ (k : ℕ). k * k) (ap (λ (k : ℕ). 2 ^ k) c.loop-y.invariant.side ∙ sym e) in
     rw (← e) (rows_all n c.loop-y.y f c.args.guess.now c.loop-y.out.levels (omega arith) long wide c.loop-y.invariant.rows).1
@@ -42,8 +42,8 @@ returns-clause-bytes c =
 pub returns-clause-fit : goal.returns-clause-fit
 returns-clause-fit c =
     let n : ℕ = c.side-n.result in
-    let f : ℕ → ℕ → ℕ = λ i j. picture_of c.args.picture.now c.args.component (c.args.leaf.x + i) (c.args.leaf.y + j) in
-    let e : n ≡ 2 ^ c.args.leaf.log2 = c.side-n.ensures.value in
+    let f : ℕ → ℕ → ℕ = λ i j. picture_of c.args.picture.now c.args.component (c.args.leaf.block.x + i) (c.args.leaf.block.y + j) in
+    let e : n ≡ 2 ^ c.args.leaf.block.log2 = c.side-n.ensures.value in
     let wide : length c.args.guess.now ≡ n * n = c.requires.block ∙ ap (λ (k : ℕ). k * k) (sym e) in
     let long : length c.loop-y.out.levels ≡ n * n = c.log2-log2.ensures.whole ∙ ap (λ (k : ℕ). k * k) (ap (λ (k : ℕ). 2 ^ k) c.loop-y.invariant.side ∙ sym e) in
     let all = rows_all n c.loop-y.y f c.args.guess.now c.loop-y.out.levels (omega arith) long wide c.loop-y.invariant.rows in

@@ -5,6 +5,6 @@ use Rattle.row_coder.proofs.predicted.subtract_block.Given as goal
 
 abbrev pub invariant-loop-y : goal.invariant-loop-y
 invariant-loop-y l = record {
-  side : l.out.log2 ≡ l.leaf.log2;
-  rows : AreRows l.n (λ x y. picture_of l.picture l.component (l.leaf.x + x) (l.leaf.y + y)) l.guess l.out.levels l.y;
+  side : l.out.log2 ≡ l.leaf.block.log2;
+  rows : AreRows l.n (λ x y. picture_of l.picture l.component (l.leaf.block.x + x) (l.leaf.block.y + y)) l.guess l.out.levels l.y;
 }
