@@ -14,6 +14,7 @@ use crate::kept::Kept;
 use crate::vector::read_vector;
 use bin_items::Kind;
 use cabac_dec::Decoder;
+use h265_model::syntax_elements::{MERGE_FLAG, PART_MODE, RQT_ROOT_CBF};
 use h265_model::{CodingBlock, Vector};
 use leaf_sink::LeafSink;
 use motion_grid::MotionGrid;
@@ -146,10 +147,10 @@ fn read_move(decoder: &mut Decoder, motion: &MotionGrid, block: CodingBlock) -> 
     ensures value { (before : List Moving) → HasMotion motion.now before → Moves result (move_read before block decoder.old) decoder.new }
     ensures open { IfSome result (λ _. IsOpen decoder.new) }
 {
-    expect(decoder, 8, true)?;
-    expect(decoder, 125, false)?;
+    expect(decoder, PART_MODE, true)?;
+    expect(decoder, MERGE_FLAG, false)?;
     let vector = read_vector(decoder, motion.predictors(block))?;
-    expect(decoder, 129, false)?;
+    expect(decoder, RQT_ROOT_CBF, false)?;
     Some(vector)
 }
 

@@ -12,6 +12,7 @@ use crate::mode::read_mode;
 use arrayvec::ArrayVec;
 use bin_items::Block;
 use cabac_dec::{Decoder, Place};
+use h265_model::syntax_elements::{CBF_CB, CBF_CR, CBF_LUMA, INTRA_CHROMA_PRED_MODE};
 
 /// Which components have levels other than 0: cbf_cb, cbf_cr and cbf_luma.
 #[derive(Clone, Copy)]
@@ -27,12 +28,12 @@ fn read_flags(decoder: &mut Decoder) -> Option<Flags>
     ensures value { Answers result (flags_read decoder.old) decoder.new }
     ensures open { IfSome result (λ _. IsOpen decoder.new) }
 {
-    if decoder.bin(Place::Context(10))? {
+    if decoder.bin(Place::Context(INTRA_CHROMA_PRED_MODE))? {
         return None;
     }
-    let cb = decoder.bin(Place::Context(12))?;
-    let cr = decoder.bin(Place::Context(12))?;
-    let luma = decoder.bin(Place::Context(11))?;
+    let cb = decoder.bin(Place::Context(CBF_CB))?;
+    let cr = decoder.bin(Place::Context(CBF_CR))?;
+    let luma = decoder.bin(Place::Context(CBF_LUMA))?;
     Some(Flags { cb, cr, luma })
 }
 

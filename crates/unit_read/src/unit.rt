@@ -15,6 +15,7 @@ use crate::flags::{expect, read_skip_flag};
 use crate::kept::Kept;
 use bin_items::Leaf;
 use cabac_dec::{Decoder, Place};
+use h265_model::syntax_elements::{CU_TRANSQUANT_BYPASS_FLAG, PRED_MODE_FLAG};
 use h265_model::{CodingBlock, SliceKind};
 use leaf_sink::LeafSink;
 use motion_grid::MotionGrid;
@@ -46,7 +47,7 @@ fn read_inter<S: LeafSink>(
     ensures mode { IfSome result (λ kept. IsMode kept.kind) }
     ensures last { S.last sink.new ≡ S.last sink.old }
 {
-    if decoder.bin(Place::Context(7))? {
+    if decoder.bin(Place::Context(PRED_MODE_FLAG))? {
         read_own(decoder, size, grid, block, sink)
     } else {
         read_moved(decoder, size, motion, block, sink)
@@ -148,7 +149,7 @@ pub fn read_unit<S: LeafSink>(
     ensures motion { motion.new.size ≡ size }
     ensures last { S.last sink.new ≡ S.last sink.old }
 {
-    expect(decoder, 0, true)?;
+    expect(decoder, CU_TRANSQUANT_BYPASS_FLAG, true)?;
     let kept = read_rest(decoder, kind, size, grid, motion, block, sink)?;
     grid.set(Leaf {
         block,
