@@ -433,3 +433,38 @@ fn copies_as_the_model(rt: HostRuntime) -> Result<(), Fail> {
     }
     Ok(())
 }
+
+// The digest of a plane of 16 by 16.
+fn digest(samples: &[u8]) -> u32 {
+    let mut digest = 0u32;
+    for sample in samples {
+        digest = digest.wrapping_mul(31).wrapping_add(u32::from(*sample));
+    }
+    digest
+}
+
+fn digests(picture: &Picture) -> (u32, u32, u32) {
+    (
+        digest(picture.plane(0)),
+        digest(picture.plane(1)),
+        digest(picture.plane(2)),
+    )
+}
+
+#[test]
+fn squares(rt: HostRuntime) -> Result<(), Fail> {
+    let size = Size::new(11, 9).ok_or("size")?;
+    let mut samples = [0u8; 64];
+    for i in 0..64usize {
+        samples[i] = (3 * i + 1) as u8;
+    }
+    let mut picture = Picture::black(rt.alloc(), size)?;
+    picture.put_block(0, 8, 0, 8, &samples);
+    picture.put_block(2, 0, 8, 4, &samples[..16]);
+    assert_eq!(rt; digests(&picture), (4190991456, 0, 3693049624));
+    let mut other = Picture::black(rt.alloc(), size)?;
+    other.copy_block(&picture, 6, 2, 1, 7, 9);
+    other.copy_block(&picture, 0, 8, 12, 12, 4);
+    assert_eq!(rt; digests(&other), (1786973508, 0, 594287384));
+    Ok(())
+}

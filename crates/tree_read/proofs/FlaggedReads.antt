@@ -2,10 +2,9 @@
 use Rattle.std.proofs.Common.{◌≡◌, refl, sym, ◌∙◌, ap, ℕ, Bool, true, false, Some, None, Option, List}
 use Rattle.std.specs.Prelude.{if◌then◌else◌}
 use Rattle.std.specs.Bool.{beq}
-use Rattle.h265_model.specs.declared.Place.TheVariants.{Terminate}
 use Rattle.h265_model.specs.declared.leaf.SliceKind.{SliceKind}
 use Rattle.h265_model.specs.Bits.{◌>>=◌ as and_then}
-use Rattle.h265_model.specs.Engine.{Engine, Reader, bin, give, refuse, terminate_read}
+use Rattle.h265_model.specs.Engine.{Engine, give, refuse, terminate_read}
 use Rattle.h265_model.specs.Plain.{Size}
 use Rattle.h265_model.specs.Motion.{Moving}
 use Rattle.h265_model.specs.Tree.{ReadUnit, ReadCtu, ctu_read}

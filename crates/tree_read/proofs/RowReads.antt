@@ -1,11 +1,10 @@
 -- Coding tree units of a row, read one after another.
-use Rattle.std.proofs.Common.{◌≡◌, refl, sym, ◌∙◌, ap, subst, ℕ, zero, suc, ◌+◌, ◌-◌, ◌*◌, ◌/◌, ◌%◌, ◌<◌, ◌≤◌, Bool, true, false, Some, None, Option, List, [], ◌∷◌, ◌++◌, length, map, length-append, append_assoc, append-nil, arith, le_refl}
+use Rattle.std.proofs.Common.{◌≡◌, refl, sym, ◌∙◌, ap, subst, ℕ, suc, ◌+◌, ◌-◌, ◌*◌, ◌/◌, ◌%◌, ◌<◌, ◌≤◌, Bool, true, false, Some, None, Option, List, [], ◌∷◌, ◌++◌, length, map, length-append, append_assoc, append-nil, arith, le_refl}
 use Rattle.std.specs.Prelude.{if◌then◌else◌, ◌==◌, ◌&&◌}
 use Rattle.std.specs.Bool.{beq}
-use Rattle.std.proofs.lemmas.Bool.{and_parts, lt-ltb, ltb-true, and_from, eqb-true, eqb-false, eq-eqb, ne_eqb}
+use Rattle.std.proofs.lemmas.Bool.{eqb-true, eqb-false, eq-eqb, ne_eqb}
 use Rattle.std.proofs.lemmas.Grind.{flat_map-append}
-use Rattle.std.proofs.lemmas.List.{map-append as maps_append}
-use Rattle.std.proofs.lemmas.Nat.{div-add-mod', div-mul-add, mod-mul-add, row_fits}
+use Rattle.std.proofs.lemmas.Nat.{div-add-mod', mod-mul-add, row_fits}
 use Rattle.h265_model.specs.declared.Place.TheVariants.{Terminate}
 use Rattle.h265_model.specs.declared.leaf.SliceKind.{SliceKind}
 use Rattle.h265_model.specs.declared.leaf.Leaf.{Leaf}
@@ -15,7 +14,7 @@ use Rattle.h265_model.specs.Plain.{Size, ctus, ctu_x, ctu_y}
 use Rattle.h265_model.specs.Predict.{coding_order}
 use Rattle.h265_model.specs.Motion.{Moving, leaves}
 use Rattle.h265_model.specs.Slice.{slice_row_read, segment_row_read, subset_end}
-use Rattle.h265_model.specs.Tree.{ReadUnit, ReadCtu, AreModes, ctu_read, ctus_read, contexts_read, expect, is_last, ends_row, units_of, units_after, leaf_of, moving_of}
+use Rattle.h265_model.specs.Tree.{ReadUnit, ReadCtu, AreModes, ctu_read, ctus_read, contexts_read, expect, is_last, ends_row, units_of, units_after, leaf_of}
 use Rattle.h265_laws.proofs.Coverage.{Covers, ctu_covers}
 use Rattle.read_laws.proofs.Yields.{Yields, yields_give, yields_bind, yields_after, yields_expect}
 use Rattle.read_laws.proofs.ReadTrees.{IsReadTree, yields_ctu, map-append}

@@ -11,3 +11,6 @@ pub use ctu::read_ctu;
 pub use flagged::read_flagged;
 pub use row::{read_row, read_segment_row};
 pub use unit_read::{Decoder, Grid, LeafSink, MotionGrid, Size, SliceKind};
+
+#[cfg(test)]
+mod tests;

@@ -1,12 +1,11 @@
 -- Units, read part by part, and what is done with them.
-use Rattle.std.proofs.Common.{◌≡◌, refl, sym, ◌∙◌, ap, subst, ℕ, Bool, true, false, Some, None, Option, List, [], ◌∷◌, ◌++◌, map}
+use Rattle.std.proofs.Common.{◌≡◌, refl, sym, ◌∙◌, ap, subst, ℕ, Bool, true, false, Some, None, Option, List, [], ◌∷◌, ◌++◌}
 use Rattle.std.specs.Prelude.{ℤ, if◌then◌else◌, ◌&&◌, IfSome, ◌^◌}
 use Rattle.std.specs.Bool.{beq}
 use Rattle.std.proofs.lemmas.List.{map-append}
 use Rattle.h265_model.specs.declared.Place.TheVariants.{Context}
 use Rattle.h265_model.specs.declared.leaf.SliceKind.{SliceKind}
-use Rattle.h265_model.specs.declared.leaf.SliceKind.TheVariants.{I, P}
-use Rattle.h265_model.specs.declared.leaf.Kind.{Kind}
+use Rattle.h265_model.specs.declared.leaf.SliceKind.TheVariants.{P}
 use Rattle.h265_model.specs.declared.leaf.Leaf.{Leaf}
 use Rattle.h265_model.specs.declared.moves.Vector.{Vector}
 use Rattle.h265_model.proofs.ListParts.{all_append}
@@ -14,14 +13,14 @@ use Rattle.h265_model.specs.Bits.{◌>>=◌ as and_then}
 use Rattle.h265_model.specs.Engine.{Engine, Reader, context_read, give, refuse}
 use Rattle.h265_model.specs.Plain.{block_at, Size, coded, leaf_with}
 use Rattle.h265_model.specs.Motion.{Moving, leaves, merge, predictors, vector_read, has_source, reaches}
-use Rattle.h265_model.specs.Tree.{Content, Copied, Moved, ReadUnit, expect, skip_read, coded_read, own_read, move_read, content_read, coding_unit_read, is_in_picture, vector_of, kind_of, IsMode, AreModes, unit_with, leaf_of, moving_of, units_after}
-use Rattle.leaf_sink.specs.Units.{unit, HasAvailable}
+use Rattle.h265_model.specs.Tree.{Content, Copied, Moved, ReadUnit, expect, skip_read, coded_read, own_read, move_read, coding_unit_read, is_in_picture, vector_of, IsMode, AreModes, unit_with, leaf_of, moving_of, units_after}
+use Rattle.leaf_sink.specs.Units.{unit}
 use Rattle.pu_code.specs.Cells.{StandsFor}
 use Rattle.pu_code.specs.Cells as modes
 use Rattle.motion_grid.specs.Cells.{HasMotion, coded_unit}
 use Rattle.motion_grid.specs.Cells as motions
 use Rattle.residual_read.proofs.Steps.{then_some, then_none}
-use Rattle.unit_read.specs.Units.{kept_of, placed, placed_after, rest_read, Hands, Takes, Moves, Reads, AreKept, AreTaken}
+use Rattle.unit_read.specs.Units.{kept_of, placed, placed_after, rest_read, Hands, Takes, AreKept, AreTaken}
 use Rattle.unit_read.specs.declared.kept.Kept.{Kept}
 
 -- ---- copies

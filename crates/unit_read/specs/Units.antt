@@ -3,8 +3,8 @@ use Rattle.std.specs.Prelude.{◌≡◌, ℕ, ◌*◌, ◌^◌, ◌==◌, Bool, 
 use Rattle.h265_model.specs.declared.Place.TheVariants.{Context}
 use Rattle.h265_model.specs.declared.leaf.SliceKind.{SliceKind}
 use Rattle.h265_model.specs.declared.moves.Vector.{Vector}
-use Rattle.h265_model.specs.Plain.{block_at, Size}
-use Rattle.h265_model.specs.SyntaxElements.{cu_transquant_bypass_flag, part_mode}
+use Rattle.h265_model.specs.Plain.{Size}
+use Rattle.h265_model.specs.SyntaxElements.{part_mode}
 use Rattle.h265_model.specs.Engine.{Engine, Reader, ◌>>=◌, give, refuse}
 use Rattle.h265_model.specs.Motion.{Moving, leaves, merge}
 use Rattle.h265_model.specs.Tree.{AreModes, expect, skip_read, Content, Copied, Moved, ReadUnit, kind_of, vector_of, units_after, coded_read, is_in_picture}

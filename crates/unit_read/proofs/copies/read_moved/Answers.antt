@@ -1,6 +1,6 @@
-use Rattle.h265_model.specs.Tree.{Moved, move_read}
+use Rattle.h265_model.specs.Tree.{Moved}
 use Rattle.std.proofs.Common.{sym}
-use Rattle.unit_read.specs.Units.{Takes, placed, placed_after}
+use Rattle.unit_read.specs.Units.{Takes}
 use Rattle.unit_read.proofs.UnitReads.{moved_none, moved_some, hands_as}
 use Rattle.unit_read.proofs.copies.read_moved.Goals as goal
 

@@ -1,5 +1,4 @@
 use Rattle.std.proofs.Common.{◌∙◌, ap, Some}
-use Rattle.h265_model.specs.Motion.{leaves}
 use Rattle.h265_model.specs.Tree.{own_read}
 use Rattle.unit_read.specs.Units.{Takes}
 use Rattle.unit_read.proofs.UnitReads.{inter_none, inter_own, inter_moved, still, hands_as}
