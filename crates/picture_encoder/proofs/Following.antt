@@ -8,10 +8,12 @@ use Rattle.std.proofs.lemmas.Nat.{div-add-mod'}
 use Rattle.h265_model.specs.declared.job.Job.{Job}
 use Rattle.h265_model.specs.Plain.{Size, Picture, ctus, ctu_x, ctu_y}
 use Rattle.h265_model.specs.Raster.{Raster, black_raster, coded_picture}
-use Rattle.h265_model.specs.Settings.{Settings}
+use Rattle.h265_model.specs.declared.extra.Extra.{Extra}
+use Rattle.h265_model.specs.declared.extra.Extra.TheVariants.{Plain}
+use Rattle.h265_model.specs.Settings.{Settings, has_segments}
 use Rattle.h265_model.specs.NalUnits.{stream_bytes}
 use Rattle.h265_model.specs.ParamSets.{param_units}
-use Rattle.h265_model.specs.Stream.{is_idr, order_count, reference, row_codes, slice_piece, picture_piece, pieces, pieces_after}
+use Rattle.h265_model.specs.Stream.{is_idr, order_count, reference, row_codes, slice_piece, picture_units, picture_piece, pieces, pieces_after}
 use Rattle.h265_laws.proofs.Prefixes.{pieces-append}
 use Rattle.px_plane.specs.Planes.{Planes, picture_of, Stores, Shows}
 use Rattle.px_plane.specs.Tiles.{tile_of, in_tile, laid_first, laid}
@@ -50,9 +52,9 @@ kept_but old new job same stores = record {
 
 -- ---- the first piece
 
-pub first_piece : (settings : Settings) → pieces settings [] ≡ stream_bytes (param_units settings.size false) ∷ []
+pub first_piece : (settings : Settings) → settings.extra ≡ Plain → pieces settings [] ≡ stream_bytes (param_units settings.size false) ∷ []
 unfolding pieces pieces_after
-first_piece settings = refl
+first_piece settings alone = ap (λ (extra : Extra). stream_bytes (param_units settings.size (has_segments extra)) ∷ []) alone
 
 -- ---- the pieces of pictures
 
@@ -78,17 +80,20 @@ reference_is key size last shown (p ∷ before) same shows = go (is_idr key (len
 abbrev piece_with : Settings → ℕ → Option Picture → Picture → List ℕ
 piece_with settings n before now = slice_piece (is_idr settings.key n) (order_count settings.key n % 256) (row_codes settings (is_idr settings.key n) before now)
 
-piece_is : (e : Coded) (planes : Planes) (before : List Raster) (now : Raster) → e.last.size ≡ planes.size → planes.size ≡ e.settings.size → StandsFor e before → Shows planes now
-    → piece_of e planes ≡ picture_piece e.settings (length before) (last_or None before) now
-unfolding picture_piece
-piece_is e planes before now last_size size stands shows =
+piece_is : (e : Coded) (planes : Planes) (before : List Raster) (now : Raster) → e.settings.extra ≡ Plain → e.last.size ≡ planes.size → planes.size ≡ e.settings.size → StandsFor e before
+    → Shows planes now → piece_of e planes ≡ picture_piece e.settings (length before) (last_or None before) now
+unfolding picture_piece picture_units
+piece_is e planes before now alone last_size size stands shows =
+    let idr : Bool = is_idr e.settings.key (length before) in
+    let refers : Option Picture = reference idr e.settings.size (last_or None before) in
+    let coded : Picture = coded_picture e.settings.size now in
     ap (λ (n : ℕ). piece_with e.settings n (reference_of (is_idr e.settings.key n) (picture_of e.last)) (picture_of planes)) stands.count
-    ∙ (ap (λ (p : Picture). piece_with e.settings (length before) (reference_of (is_idr e.settings.key (length before)) (picture_of e.last)) p)
-    (shown_is_coded planes now shows ∙ ap (λ (s : Size). coded_picture s now) size)
-    ∙ ap (λ (r : Option Picture). piece_with e.settings (length before) r (coded_picture e.settings.size now))
-    (reference_is e.settings.key e.settings.size e.last (black_raster e.settings.size) before (last_size ∙ size) stands.last))
+    ∙ (ap (λ (p : Picture). piece_with e.settings (length before) (reference_of idr (picture_of e.last)) p) (shown_is_coded planes now shows ∙ ap (λ (s : Size). coded_picture s now) size)
+    ∙ (ap (λ (r : Option Picture). piece_with e.settings (length before) r coded)
+    (reference_is e.settings.key e.settings.size e.last (black_raster e.settings.size) before (last_size ∙ size) stands.last)
+    ∙ ap (λ (extra : Extra). picture_units extra e.settings idr (order_count e.settings.key (length before) % 256) refers coded) (sym alone)))
 
-pub one_more : (e : Coded) (planes : Planes) (before : List Raster) (now : Raster) (piece : List ℕ) → e.last.size ≡ planes.size → planes.size ≡ e.settings.size → StandsFor e before → Shows planes now
-    → piece ≡ piece_of e planes → pieces e.settings (before ++ now ∷ []) ≡ pieces e.settings before ++ piece ∷ []
-one_more e planes before now piece last_size size stands shows is =
-    pieces-append e.settings before now ∙ ap (λ (p : List ℕ). pieces e.settings before ++ p ∷ []) (sym (is ∙ piece_is e planes before now last_size size stands shows))
+pub one_more : (e : Coded) (planes : Planes) (before : List Raster) (now : Raster) (piece : List ℕ) → e.settings.extra ≡ Plain → e.last.size ≡ planes.size → planes.size ≡ e.settings.size → StandsFor e before
+    → Shows planes now → piece ≡ piece_of e planes → pieces e.settings (before ++ now ∷ []) ≡ pieces e.settings before ++ piece ∷ []
+one_more e planes before now piece alone last_size size stands shows is =
+    pieces-append e.settings before now ∙ ap (λ (p : List ℕ). pieces e.settings before ++ p ∷ []) (sym (is ∙ piece_is e planes before now alone last_size size stands shows))

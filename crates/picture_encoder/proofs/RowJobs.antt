@@ -10,7 +10,7 @@ use Rattle.h265_model.specs.declared.leaf.SliceKind.{SliceKind}
 use Rattle.h265_model.specs.Plain.{ctus, below, joined}
 use Rattle.h265_model.specs.NalUnits.{escape}
 use Rattle.h265_model.specs.Slice.{IsSlice, row_code}
-use Rattle.h265_model.specs.Tree.{source_of}
+use Rattle.h265_model.specs.Tree.{leaf_units, source_of}
 use Rattle.h265_model.specs.Wave.{Jobs, inherited, row_bytes}
 use Rattle.h265_laws.proofs.SubstreamLaw.{each_row_is_substream}
 use Rattle.px_plane.specs.Planes.{Planes, picture_of}
@@ -170,7 +170,7 @@ module _ (planes : Planes) (kind : SliceKind) (leaves : List (List Leaf)) (are :
       ap (λ (c : List ℕ). cond (wide == 1) None (Some c))
       (ap (λ (p : Plan). p.second (inherited (jobs_of wide plans) r)) (plan_at r (omega arith)) ∙ ap (λ (i : Option (List ℕ)). (plan_of (rows_at r)).second i) (same_inherited r (omega arith)))
 
-  bytes_at : (r : ℕ) → r < high → row_bytes (jobs_of wide plans) r ≡ row_code kind planes.size (source_of planes.size (picture_of planes)) leaves r
+  bytes_at : (r : ℕ) → r < high → row_bytes (jobs_of wide plans) r ≡ row_code kind (leaf_units kind (source_of planes.size (picture_of planes))) planes.size leaves r
   bytes_at r less =
       ap (λ (p : Plan). p.bytes (inherited (jobs_of wide plans) r)) (plan_at r less)
       ∙ (ap (λ (i : Option (List ℕ)). (plan_of (rows_at r)).bytes i) (same_inherited r less)
@@ -179,10 +179,10 @@ module _ (planes : Planes) (kind : SliceKind) (leaves : List (List Leaf)) (are :
   many : length plans ≡ high
   many = length-map (map rows_at (below high)) plan_of ∙ length-map-range_with_len rows_at 0 high
 
-  pub rows_give : rows_of wide plans ≡ map (row_code kind planes.size (source_of planes.size (picture_of planes)) leaves) (below high)
+  pub rows_give : rows_of wide plans ≡ map (row_code kind (leaf_units kind (source_of planes.size (picture_of planes))) planes.size leaves) (below high)
   rows_give =
       ap (λ (n : ℕ). map (row_bytes (jobs_of wide plans)) (below n)) many
-      ∙ same_below (row_bytes (jobs_of wide plans)) (row_code kind planes.size (source_of planes.size (picture_of planes)) leaves) 0 high (λ i h. bytes_at i (omega arith))
+      ∙ same_below (row_bytes (jobs_of wide plans)) (row_code kind (leaf_units kind (source_of planes.size (picture_of planes))) planes.size leaves) 0 high (λ i h. bytes_at i (omega arith))
 
 -- ---- rows of one width
 
@@ -212,9 +212,9 @@ task_rows t some = rows_give (planes_of_task t) (kind_of_task t) (all_chosen t) 
 -- ---- substreams
 
 pub are_substreams : {X : Type 0} (f : X → List ℕ) (rows : List X) (kind : SliceKind) (planes : Planes) (leaves : List (List Leaf)) → IsSlice kind planes.size (source_of planes.size (picture_of planes)) leaves
-    → ctus planes.size.w ≤ 128 → map f rows ≡ map (row_code kind planes.size (source_of planes.size (picture_of planes)) leaves) (below (ctus planes.size.h)) → All (λ row. IsSubstream (f row)) rows
+    → ctus planes.size.w ≤ 128 → map f rows ≡ map (row_code kind (leaf_units kind (source_of planes.size (picture_of planes))) planes.size leaves) (below (ctus planes.size.h)) → All (λ row. IsSubstream (f row)) rows
 are_substreams f rows kind planes leaves is narrow e = λ k d less.
-    let code : ℕ → List ℕ = row_code kind planes.size (source_of planes.size (picture_of planes)) leaves in
+    let code : ℕ → List ℕ = row_code kind (leaf_units kind (source_of planes.size (picture_of planes))) planes.size leaves in
     let long : length rows ≡ ctus planes.size.h = sym (length-map rows f) ∙ (ap length e ∙ length-map-range_with_len code 0 (ctus planes.size.h)) in
     let at : f (get_or rows k d) ≡ code k =
     sym (get_or-map f rows k d [] less) ∙ (ap (λ (l : List (List ℕ)). get_or l k []) e ∙ get_or-map-range_with_len code 0 (ctus planes.size.h) k k [] (omega arith) (omega arith)) in

@@ -10,7 +10,7 @@ use Rattle.h265_model.specs.Tiles.{tile_count}
 use Rattle.h265_model.specs.NalUnits.{escape}
 use Rattle.h265_model.specs.Slice.{row_code}
 use Rattle.h265_model.specs.Stream.{slice_kind, is_idr, order_count, row_codes, slice_piece}
-use Rattle.h265_model.specs.Tree.{source_of}
+use Rattle.h265_model.specs.Tree.{leaf_units, source_of}
 use Rattle.px_plane.specs.Planes.{Planes, picture_of}
 use Rattle.block_choice.specs.Plans.{IsSameTree}
 use Rattle.row_coder.specs.Rows.{Row}
@@ -100,7 +100,7 @@ row_of_task t = job_row (planes_of_task t) (kind_of_task t) (all_chosen t)
 
 -- the bytes of a row
 abbrev pub code_of_task : Task → ℕ → List ℕ
-code_of_task t = row_code (kind_of_task t) (size_of_task t) (source_of (size_of_task t) (picture_of (planes_of_task t))) (all_chosen t)
+code_of_task t = row_code (kind_of_task t) (leaf_units (kind_of_task t) (source_of (size_of_task t) (picture_of (planes_of_task t)))) (size_of_task t) (all_chosen t)
 
 -- the bytes of all rows, with their emulation prevention
 abbrev pub rows_of_task : Task → List (List ℕ)
@@ -118,7 +118,7 @@ abbrev pub codes_of : Coded → Planes → List (List ℕ)
 codes_of e now =
     let idr : Bool = is_idr e.settings.key e.count in
     let leaves : List (List Leaf) = map (choice (reference_of idr (picture_of e.last)) (picture_of now) now.size e.settings.effort) (below (ctus now.size.w * ctus now.size.h)) in
-    map (row_code (slice_kind idr) now.size (source_of now.size (picture_of now)) leaves) (below (ctus now.size.h))
+    map (row_code (slice_kind idr) (leaf_units (slice_kind idr) (source_of now.size (picture_of now))) now.size leaves) (below (ctus now.size.h))
 
 -- its piece
 abbrev pub piece_of : Coded → Planes → List ℕ

@@ -5,7 +5,7 @@ ghost use Rattle.std.specs.List.{All};
 ghost use Rattle.h265_model.specs.Plain.{ctus};
 ghost use Rattle.h265_model.specs.Raster.{Raster};
 ghost use Rattle.h265_model.specs.Stream.{is_idr, pieces};
-ghost use Rattle.h265_model.specs.Settings.{is_size};
+ghost use Rattle.h265_model.specs.Settings.{is_size, plain};
 ghost use Rattle.px_plane.specs.Tiles.{IsJobOf};
 ghost use Rattle.px_plane.specs.Planes.{picture_of, Shows};
 ghost use Rattle.picture_encoder.specs.Coded.{StandsFor, TurnsInto, IsLaid};
@@ -57,12 +57,13 @@ pub struct Encoder {
 impl Model for Encoder {
     ghost use Rattle.std.specs.Prelude.{option_map};
     ghost use Rattle.std.specs.Arc.{arc_value};
+    ghost use Rattle.h265_model.specs.Settings.{plain};
     ghost use Rattle.picture_encoder.specs.Coded.{Coded, IsWhole, last_or_black};
 
     ghost Value = { Coded };
 
     ghost view = { λ e. record {
-      settings = record { size = e.size; effort = e.effort; key = e.key };
+      settings = plain e.size e.effort e.key;
       count = e.count;
       last = last_or_black e.size (option_map (λ last. arc_value last) e.last);
     } };
@@ -79,7 +80,7 @@ impl Encoder {
     pub fn new(alloc: Global, size: Size, effort: u32, key: u32) -> Result<Encoder, NoMemory>
         requires { effort ≤ 2 }
         ensures some { IsOk result }
-        ensures settings { IfOk result (λ encoder. encoder.settings ≡ record { size = size; effort = effort; key = key }) }
+        ensures settings { IfOk result (λ encoder. encoder.settings ≡ plain size effort key) }
         ensures sized { IfOk result (λ encoder. encoder.last.size ≡ encoder.settings.size) }
         ensures fresh { IfOk result (λ encoder. StandsFor encoder []) }
     {

@@ -31,5 +31,5 @@ returns-clause-coded g c = λ before now stands turns.
 
 pub returns-clause-piece : goal.returns-clause-piece
 returns-clause-piece g c = λ before now stands turns.
-    one_more c.args.self.now (arc_value c.in_ok-now.now) before now c.in_ok-piece.piece.items (sym c.in_ok-now.ensures.laid.size) c.in_ok-now.ensures.size stands (c.in_ok-now.ensures.shows now turns)
+    one_more c.args.self.now (arc_value c.in_ok-now.now) before now c.in_ok-piece.piece.items (sym (ap (λ (e : Coded). e.settings.extra) c.self.view_is)) (sym c.in_ok-now.ensures.laid.size) c.in_ok-now.ensures.size stands (c.in_ok-now.ensures.shows now turns)
     (c.in_ok-piece.ensures.piece ∙ ap (λ (e : Coded). piece_of e (arc_value c.in_ok-now.now)) c.in_ok-now.ensures.same)
