@@ -12,6 +12,7 @@ use block_choice::plan_ctu;
 use cabac_bytes::ByteCoder;
 use cabac_tables::{Contexts, SliceKind};
 use coding_tree::LevelSource;
+use h265_model::CodingBlock;
 use px_plane::{Picture, Rect, Rgb, Size, Steps};
 use residual_code::write_residual;
 use row_coder::PictureLevels;
@@ -127,9 +128,11 @@ impl Work for Residuals {
         let mut block = Block::zero(log2);
         for number in 0..self.blocks.min(32) {
             let leaf = Leaf {
-                x: number << log2,
-                y: 0,
-                log2,
+                block: CodingBlock {
+                    x: number << log2,
+                    y: 0,
+                    log2,
+                },
                 kind: Kind::Intra(0),
             };
             source.levels(leaf, 0, &mut block);

@@ -22,14 +22,32 @@ impl<'a> Work for Reading<'a> {
     }
 }
 
-// As many of these lines as fit so many bytes.
-fn repeated(alloc: Global, line: &[u8], count: usize) -> Result<Vec<u8>, Trouble> {
+// A first line, and then as many of these lines as fit so many bytes.
+fn repeated(alloc: Global, first: &[u8], line: &[u8], count: usize) -> Result<Vec<u8>, Trouble> {
     let mut text = Vec::new(alloc);
     text.reserve(count)?;
+    text.extend_from_slice(first)?;
     for _ in 0..count / line.len().max(1) {
         text.extend_from_slice(line)?;
     }
     Ok(text)
+}
+
+fn read_script_of<R: Clock + Print>(
+    rt: &R,
+    alloc: Global,
+    mode: Mode,
+    name: &str,
+    first: &[u8],
+    line: &[u8],
+) -> Result<(), Trouble> {
+    let count = match mode {
+        Mode::Once => 1 << 16,
+        Mode::Timed => 1 << 24,
+    };
+    let text = repeated(alloc, first, line, count)?;
+    let mut reading = Reading { text: &text };
+    measure(rt, alloc, mode, name, text.len(), &mut reading)
 }
 
 fn read_lines<R: Clock + Print>(
@@ -39,16 +57,20 @@ fn read_lines<R: Clock + Print>(
     name: &str,
     line: &[u8],
 ) -> Result<(), Trouble> {
-    let count = match mode {
-        Mode::Once => 1 << 16,
-        Mode::Timed => 1 << 24,
-    };
-    let text = repeated(alloc, line, count)?;
-    let mut reading = Reading { text: &text };
-    measure(rt, alloc, mode, name, text.len(), &mut reading)
+    read_script_of(rt, alloc, mode, name, b"", line)
 }
 
-/// Reads scripts of fills, of the largest and of the shortest blits, and of cuts: 16 MiB each, or 64 KiB where no time is taken.
+fn read_copies<R: Clock + Print>(
+    rt: &R,
+    alloc: Global,
+    mode: Mode,
+    name: &str,
+    line: &[u8],
+) -> Result<(), Trouble> {
+    read_script_of(rt, alloc, mode, name, b"paint 2\n", line)
+}
+
+/// Reads scripts of fills, of the largest and of the shortest blits, of cuts, and of copies: 16 MiB each, or 64 KiB where no time is taken.
 pub fn run<R: Clock + Print>(rt: &R, alloc: Global, mode: Mode) -> Result<(), Trouble> {
     read_lines(rt, alloc, mode, "fills", b"fill 12 345 678 90 a1b2c3\n")?;
     let mut blit = b"blit 0 0 64 64 ".to_vec(alloc)?;
@@ -58,5 +80,8 @@ pub fn run<R: Clock + Print>(rt: &R, alloc: Global, mode: Mode) -> Result<(), Tr
     blit.push(b'\n')?;
     read_lines(rt, alloc, mode, "largest blits", &blit)?;
     read_lines(rt, alloc, mode, "shortest blits", b"blit 0 0 1 1 09a5fe\n")?;
-    read_lines(rt, alloc, mode, "cuts", b"cut\n")
+    read_lines(rt, alloc, mode, "cuts", b"cut\n")?;
+    let copy = b"copy 12 345 678 90 12 329\n";
+    read_copies(rt, alloc, mode, "copies", copy)?;
+    read_copies(rt, alloc, mode, "shortest copies", b"copy 0 0 1 1 0 0\n")
 }

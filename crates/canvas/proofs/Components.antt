@@ -57,7 +57,7 @@ module _ (d0 d1 d2 d3 : Planes) (left top n : ℕ) (b0 b1 b2 : List ℕ) (are : 
 
 -- a unit is drawn if its three blocks are
 pub three_drawn : (old new : Pictures) (units : List ReadUnit) (u : ReadUnit) (d1 d2 : Planes) (b0 b1 b2 : List ℕ) → new.last ≡ old.last → old.drawn.size ≡ old.last.size
-    → AreDrawn old.drawn d1 d2 new.drawn u.x u.y (2 ^ u.log2) b0 b1 b2
+    → AreDrawn old.drawn d1 d2 new.drawn u.block.x u.block.y (2 ^ u.block.log2) b0 b1 b2
     → ((before : Picture) → Stores old.last before → (c : ℕ) → c < 3
     → get_or (b0 ∷ b1 ∷ b2 ∷ []) c [] ≡ block_of old.last.size before (with_units old.last.size before blank units) (leaf_of u) u.content c)
     → IsUnitDrawn old new units u
@@ -65,12 +65,12 @@ three_drawn old new units u d1 d2 b0 b1 b2 same sizes are blocks = record {
   last = same;
   block = λ before stores c x y small inside at.
       let p = inside_parts old.last.size x y inside in
-      all_drawn old.drawn d1 d2 new.drawn u.x u.y (2 ^ u.log2) b0 b1 b2 are c x y small (subst (λ (s : Size). x < coded s.w) (sym sizes) p.0) (subst (λ (s : Size). y < coded s.h) (sym sizes) p.1)
+      all_drawn old.drawn d1 d2 new.drawn u.block.x u.block.y (2 ^ u.block.log2) b0 b1 b2 are c x y small (subst (λ (s : Size). x < coded s.w) (sym sizes) p.0) (subst (λ (s : Size). y < coded s.h) (sym sizes) p.1)
       ∙ (ap (λ (t : Bool). cond t (in_block u (get_or (b0 ∷ b1 ∷ b2 ∷ []) c []) x y) (picture_of old.drawn c x y)) at
       ∙ ap (λ (l : List ℕ). in_block u l x y) (blocks before stores c small));
   others = λ c x y small inside at.
       let p = inside_parts old.last.size x y inside in
-      all_drawn old.drawn d1 d2 new.drawn u.x u.y (2 ^ u.log2) b0 b1 b2 are c x y small (subst (λ (s : Size). x < coded s.w) (sym sizes) p.0) (subst (λ (s : Size). y < coded s.h) (sym sizes) p.1)
+      all_drawn old.drawn d1 d2 new.drawn u.block.x u.block.y (2 ^ u.block.log2) b0 b1 b2 are c x y small (subst (λ (s : Size). x < coded s.w) (sym sizes) p.0) (subst (λ (s : Size). y < coded s.h) (sym sizes) p.1)
       ∙ ap (λ (t : Bool). cond t (in_block u (get_or (b0 ∷ b1 ∷ b2 ∷ []) c []) x y) (picture_of old.drawn c x y)) at;
 }
 
@@ -85,7 +85,7 @@ pub samples_block : (size : Size) (before now : Picture) (x y log2 : ℕ) (sampl
     → b0 ≡ take (2 ^ log2 * 2 ^ log2) samples → b1 ≡ take (2 ^ log2 * 2 ^ log2) (drop (2 ^ log2 * 2 ^ log2) samples)
     → b2 ≡ take (2 ^ log2 * 2 ^ log2) (drop (2 ^ log2 * 2 ^ log2 + 2 ^ log2 * 2 ^ log2) samples)
     → (c : ℕ) → c < 3
-    → get_or (b0 ∷ b1 ∷ b2 ∷ []) c [] ≡ block_of size before now (leaf_of (unit x y log2 (Samples (thirds (2 ^ log2 * 2 ^ log2) samples)))) (Samples (thirds (2 ^ log2 * 2 ^ log2) samples)) c
+    → get_or (b0 ∷ b1 ∷ b2 ∷ []) c [] ≡ block_of size before now (leaf_of (unit (block_at x y log2) (Samples (thirds (2 ^ log2 * 2 ^ log2) samples)))) (Samples (thirds (2 ^ log2 * 2 ^ log2) samples)) c
 unfolding block_of
 samples_block size before now x y log2 samples b0 b1 b2 e0 e1 e2 c small = rw (e0, e1, e2) refl
 
@@ -93,15 +93,15 @@ samples_block size before now x y log2 samples b0 b1 b2 e0 e1 e2 c small = rw (e
 
 -- the pictures from which the components were predicted
 pub record ArePredicted (size : Size) (d0 d1 d2 : Planes) (mode x y log2 : ℕ) (l0 l1 l2 : Option (List ℤ)) (b0 b1 b2 : List ℕ) : Type 0 where
-  pub first : b0 ≡ drawn_block size (picture_of d0) mode 0 x y log2 l0
-  pub second : b1 ≡ drawn_block size (picture_of d1) mode 1 x y log2 l1
-  pub third : b2 ≡ drawn_block size (picture_of d2) mode 2 x y log2 l2
+  pub first : b0 ≡ drawn_block size (picture_of d0) mode 0 (block_at x y log2) l0
+  pub second : b1 ≡ drawn_block size (picture_of d1) mode 1 (block_at x y log2) l1
+  pub third : b2 ≡ drawn_block size (picture_of d2) mode 2 (block_at x y log2) l2
 
 available_inside : (size : Size) (x y px py : ℕ) → is_available size x y px py ≡ true → is_inside size px py ≡ true
 available_inside size x y px py h = (and_parts _ _ h).0
 
 block_is : (size : Size) (a b : Picture) (mode component x y log2 : ℕ) (l : Option (List ℤ)) → ((qx qy : ℕ) → is_available size x y qx qy ≡ true → a component qx qy ≡ b component qx qy)
-    → drawn_block size a mode component x y log2 l ≡ sums (prediction size b mode component (block_at x y log2)) (levels_or log2 l)
+    → drawn_block size a mode component (block_at x y log2) l ≡ sums (prediction size b mode component (block_at x y log2)) (levels_or log2 l)
 block_is size a b mode component x y log2 l h = ap (λ (p : List ℕ). sums p (levels_or log2 l)) (prediction_same size a b mode component x y log2 h)
 
 pub levels_block : (old : Pictures) (units : List ReadUnit) (d1 d2 d3 : Planes) (mode x y log2 : ℕ) (l0 l1 l2 : Option (List ℤ)) (b0 b1 b2 : List ℕ)
@@ -109,7 +109,7 @@ pub levels_block : (old : Pictures) (units : List ReadUnit) (d1 d2 d3 : Planes) 
     → AreDrawn old.drawn d1 d2 d3 x y (2 ^ log2) b0 b1 b2 → ArePredicted old.last.size old.drawn d1 d2 mode x y log2 l0 l1 l2 b0 b1 b2
     → (before : Picture) → Stores old.last before → (c : ℕ) → c < 3
     → get_or (b0 ∷ b1 ∷ b2 ∷ []) c [] ≡ block_of old.last.size before (with_units old.last.size before blank units)
-    (leaf_of (unit x y log2 (Levels mode (levels_or log2 l0 ∷ levels_or log2 l1 ∷ levels_or log2 l2 ∷ [])))) (Levels mode (levels_or log2 l0 ∷ levels_or log2 l1 ∷ levels_or log2 l2 ∷ [])) c
+    (leaf_of (unit (block_at x y log2) (Levels mode (levels_or log2 l0 ∷ levels_or log2 l1 ∷ levels_or log2 l2 ∷ [])))) (Levels mode (levels_or log2 l0 ∷ levels_or log2 l1 ∷ levels_or log2 l2 ∷ [])) c
 unfolding block_of
 levels_block old units d1 d2 d3 mode x y log2 l0 l1 l2 b0 b1 b2 sizes draws has are is before stores c small = go c small
   where

@@ -34,14 +34,14 @@ covered_more units u x y = ap (λ (l : List Leaf). list_any (covers x y) l) (lea
 
 -- the sample of a place of a block
 abbrev pub in_block : ReadUnit → List ℕ → ℕ → ℕ → ℕ
-in_block u block x y = get_or block ((y - u.y) * 2 ^ u.log2 + (x - u.x)) 0
+in_block u block x y = get_or block ((y - u.block.y) * 2 ^ u.block.log2 + (x - u.block.x)) 0
 
 -- the unit's block is drawn, and elsewhere all is as before
 pub record IsUnitDrawn (old new : Pictures) (units : List ReadUnit) (u : ReadUnit) : Type 0 where
   pub last : new.last ≡ old.last
-  pub block : (before : Picture) → Stores old.last before → (c x y : ℕ) → c < 3 → is_inside old.last.size x y ≡ true → is_in_square u.x u.y (2 ^ u.log2) x y ≡ true
+  pub block : (before : Picture) → Stores old.last before → (c x y : ℕ) → c < 3 → is_inside old.last.size x y ≡ true → is_in_square u.block.x u.block.y (2 ^ u.block.log2) x y ≡ true
       → picture_of new.drawn c x y ≡ in_block u (block_of old.last.size before (with_units old.last.size before blank units) (leaf_of u) u.content c) x y
-  pub others : (c x y : ℕ) → c < 3 → is_inside old.last.size x y ≡ true → is_in_square u.x u.y (2 ^ u.log2) x y ≡ false → picture_of new.drawn c x y ≡ picture_of old.drawn c x y
+  pub others : (c x y : ℕ) → c < 3 → is_inside old.last.size x y ≡ true → is_in_square u.block.x u.block.y (2 ^ u.block.log2) x y ≡ false → picture_of new.drawn c x y ≡ picture_of old.drawn c x y
 
 pub unit_drawn : (old new : Pictures) (units : List ReadUnit) (u : ReadUnit) → Draws old units → IsUnitDrawn old new units u → Draws new (units ++ u ∷ [])
 unit_drawn old new units u draws is = record {
@@ -111,31 +111,31 @@ is_at left top n x y h =
     record { left = leb-true _ _ r.0; right = ltb-true _ _ r.1; top = leb-true _ _ q.1; bottom = ltb-true _ _ p.1 }
 
 -- a place of a block that is copied
-at_moved : (before : Picture) (u : ReadUnit) (v : Vector) (c x y : ℕ) → IsAt u.x u.y (2 ^ u.log2) x y → in_block u (moved_samples before (leaf_of u) v c) x y ≡ before c (moved x v.x) (moved y v.y)
+at_moved : (before : Picture) (u : ReadUnit) (v : Vector) (c x y : ℕ) → IsAt u.block.x u.block.y (2 ^ u.block.log2) x y → in_block u (moved_samples before (leaf_of u) v c) x y ≡ before c (moved x v.x) (moved y v.y)
 unfolding moved_samples
 at_moved before u v c x y at =
-    let left : u.x ≤ x = at.left in
-    let right : x < u.x + 2 ^ u.log2 = at.right in
-    let top : u.y ≤ y = at.top in
-    let bottom : y < u.y + 2 ^ u.log2 = at.bottom in
-    let ex : u.x + (x - u.x) ≡ x = omega arith in
-    let ey : u.y + (y - u.y) ≡ y = omega arith in
-    at_places (2 ^ u.log2) (2 ^ u.log2) (x - u.x) (y - u.y) (λ px py. before c (moved (u.x + px) v.x) (moved (u.y + py) v.y)) 0 (omega arith) (omega arith)
-    ∙ (ap (λ (k : ℕ). before c (moved k v.x) (moved (u.y + (y - u.y)) v.y)) ex ∙ ap (λ (k : ℕ). before c (moved x v.x) (moved k v.y)) ey)
+    let left : u.block.x ≤ x = at.left in
+    let right : x < u.block.x + 2 ^ u.block.log2 = at.right in
+    let top : u.block.y ≤ y = at.top in
+    let bottom : y < u.block.y + 2 ^ u.block.log2 = at.bottom in
+    let ex : u.block.x + (x - u.block.x) ≡ x = omega arith in
+    let ey : u.block.y + (y - u.block.y) ≡ y = omega arith in
+    at_places (2 ^ u.block.log2) (2 ^ u.block.log2) (x - u.block.x) (y - u.block.y) (λ px py. before c (moved (u.block.x + px) v.x) (moved (u.block.y + py) v.y)) 0 (omega arith) (omega arith)
+    ∙ (ap (λ (k : ℕ). before c (moved k v.x) (moved (u.block.y + (y - u.block.y)) v.y)) ex ∙ ap (λ (k : ℕ). before c (moved x v.x) (moved k v.y)) ey)
 
 -- the same of the picture that it is copied from
-at_source : (last : Planes) (before : Picture) (u : ReadUnit) (v : Vector) (c x y : ℕ) → Stores last before → c < 3 → IsAt u.x u.y (2 ^ u.log2) x y
-    → CanMove u.x v.x × (moved u.x v.x + 2 ^ u.log2 ≤ coded last.size.w) → CanMove u.y v.y × (moved u.y v.y + 2 ^ u.log2 ≤ coded last.size.h)
-    → picture_of last c (moved u.x v.x + (x - u.x)) (moved u.y v.y + (y - u.y)) ≡ before c (moved x v.x) (moved y v.y)
+at_source : (last : Planes) (before : Picture) (u : ReadUnit) (v : Vector) (c x y : ℕ) → Stores last before → c < 3 → IsAt u.block.x u.block.y (2 ^ u.block.log2) x y
+    → CanMove u.block.x v.x × (moved u.block.x v.x + 2 ^ u.block.log2 ≤ coded last.size.w) → CanMove u.block.y v.y × (moved u.block.y v.y + 2 ^ u.block.log2 ≤ coded last.size.h)
+    → picture_of last c (moved u.block.x v.x + (x - u.block.x)) (moved u.block.y v.y + (y - u.block.y)) ≡ before c (moved x v.x) (moved y v.y)
 at_source last before u v c x y stores small at mx my =
-    let left : u.x ≤ x = at.left in
-    let right : x < u.x + 2 ^ u.log2 = at.right in
-    let top : u.y ≤ y = at.top in
-    let bottom : y < u.y + 2 ^ u.log2 = at.bottom in
-    let wide : moved u.x v.x + 2 ^ u.log2 ≤ coded last.size.w = mx.1 in
-    let tall : moved u.y v.y + 2 ^ u.log2 ≤ coded last.size.h = my.1 in
-    stores.each c (moved u.x v.x + (x - u.x)) (moved u.y v.y + (y - u.y)) small (omega arith) (omega arith)
-    ∙ (ap (λ (k : ℕ). before c k (moved u.y v.y + (y - u.y))) (moved_on u.x x v.x mx.0 left) ∙ ap (λ (k : ℕ). before c (moved x v.x) k) (moved_on u.y y v.y my.0 top))
+    let left : u.block.x ≤ x = at.left in
+    let right : x < u.block.x + 2 ^ u.block.log2 = at.right in
+    let top : u.block.y ≤ y = at.top in
+    let bottom : y < u.block.y + 2 ^ u.block.log2 = at.bottom in
+    let wide : moved u.block.x v.x + 2 ^ u.block.log2 ≤ coded last.size.w = mx.1 in
+    let tall : moved u.block.y v.y + 2 ^ u.block.log2 ≤ coded last.size.h = my.1 in
+    stores.each c (moved u.block.x v.x + (x - u.block.x)) (moved u.block.y v.y + (y - u.block.y)) small (omega arith) (omega arith)
+    ∙ (ap (λ (k : ℕ). before c k (moved u.block.y v.y + (y - u.block.y))) (moved_on u.block.x x v.x mx.0 left) ∙ ap (λ (k : ℕ). before c (moved x v.x) k) (moved_on u.block.y y v.y my.0 top))
 
 -- a content that is copied by a vector
 pub record CopiesBy (content : Content) (v : Vector) : Type 0 where
@@ -154,20 +154,20 @@ pub copied_as : (old new : Pictures) (from_x from_y x y log2 n : ℕ) (v : Vecto
 copied_as old new from_x from_y x y log2 n v ex ey en stores same = record { last = same; samples = rw (← ex, ← ey, ← en) stores }
 
 pub copy_drawn : (old new : Pictures) (units : List ReadUnit) (u : ReadUnit) (v : Vector) → IsTrue (is_size old.last.size) → old.drawn.size ≡ old.last.size → new.drawn.size ≡ old.last.size
-    → IsTrue (has_source old.last.size u.block v) → CopiesBy u.content v → IsCopied old new u.x u.y u.log2 v → IsUnitDrawn old new units u
+    → IsTrue (has_source old.last.size u.block v) → CopiesBy u.content v → IsCopied old new u.block.x u.block.y u.block.log2 v → IsUnitDrawn old new units u
 copy_drawn old new units u v sized size_old size_new source by is = record {
   last = is.last;
   block = λ before stores c x y small inside at.
       put c x y small inside
-      ∙ (ap (λ (t : Bool). cond t (picture_of old.last c (moved u.x v.x + (x - u.x)) (moved u.y v.y + (y - u.y))) (picture_of old.drawn c x y)) at
-      ∙ (at_source old.last before u v c x y stores small (is_at u.x u.y (2 ^ u.log2) x y at) (source_x old.last.size u.x u.y u.log2 v sized source) (source_y old.last.size u.x u.y u.log2 v sized source)
-      ∙ (sym (at_moved before u v c x y (is_at u.x u.y (2 ^ u.log2) x y at))
+      ∙ (ap (λ (t : Bool). cond t (picture_of old.last c (moved u.block.x v.x + (x - u.block.x)) (moved u.block.y v.y + (y - u.block.y))) (picture_of old.drawn c x y)) at
+      ∙ (at_source old.last before u v c x y stores small (is_at u.block.x u.block.y (2 ^ u.block.log2) x y at) (source_x old.last.size u.block.x u.block.y u.block.log2 v sized source) (source_y old.last.size u.block.x u.block.y u.block.log2 v sized source)
+      ∙ (sym (at_moved before u v c x y (is_at u.block.x u.block.y (2 ^ u.block.log2) x y at))
       ∙ ap (λ (l : List ℕ). in_block u l x y) (sym (by.block old.last.size before (with_units old.last.size before blank units) (leaf_of u) c)))));
   others = λ c x y small inside at.
-      put c x y small inside ∙ ap (λ (t : Bool). cond t (picture_of old.last c (moved u.x v.x + (x - u.x)) (moved u.y v.y + (y - u.y))) (picture_of old.drawn c x y)) at;
+      put c x y small inside ∙ ap (λ (t : Bool). cond t (picture_of old.last c (moved u.block.x v.x + (x - u.block.x)) (moved u.block.y v.y + (y - u.block.y))) (picture_of old.drawn c x y)) at;
 }
   where
-    put : (c x y : ℕ) → c < 3 → is_inside old.last.size x y ≡ true → picture_of new.drawn c x y ≡ with_copy (picture_of old.drawn) (picture_of old.last) (moved u.x v.x) (moved u.y v.y) u.x u.y (2 ^ u.log2) c x y
+    put : (c x y : ℕ) → c < 3 → is_inside old.last.size x y ≡ true → picture_of new.drawn c x y ≡ with_copy (picture_of old.drawn) (picture_of old.last) (moved u.block.x v.x) (moved u.block.y v.y) u.block.x u.block.y (2 ^ u.block.log2) c x y
     put c x y small inside =
         let p = inside_parts old.last.size x y inside in
         is.samples.each c x y small (subst (λ (s : Size). x < coded s.w) (sym size_new) p.0) (subst (λ (s : Size). y < coded s.h) (sym size_new) p.1)

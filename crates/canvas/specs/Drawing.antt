@@ -11,6 +11,7 @@ use Rattle.h265_model.specs.Tree.{ReadUnit, vector_of}
 use Rattle.px_plane.specs.Planes.{Planes, IsPicture, Stores, picture_of}
 use Rattle.px_plane.specs.Rows.{with_copy}
 use Rattle.leaf_sink.specs.Units.{is_covered, levels_or}
+use Rattle.h265_model.specs.declared.block.CodingBlock.{CodingBlock}
 
 -- the last picture, and the one that is being drawn
 pub record Pictures : Type 0 where
@@ -43,8 +44,8 @@ CanMove x (pos n) = x + n ≤ 4096
 CanMove x (negsuc n) = suc n ≤ x
 
 -- a component of a block as it is drawn: prediction from a picture, and levels
-abbrev pub drawn_block : Size → Picture → ℕ → ℕ → ℕ → ℕ → ℕ → Option (List ℤ) → List ℕ
-drawn_block size now mode component x y log2 levels = sums (prediction size now mode component (block_at x y log2)) (levels_or log2 levels)
+abbrev pub drawn_block : Size → Picture → ℕ → ℕ → CodingBlock → Option (List ℤ) → List ℕ
+drawn_block size now mode component block levels = sums (prediction size now mode component block) (levels_or block.log2 levels)
 
 -- ---- one unit
 

@@ -1,6 +1,6 @@
 //! Two pictures, of which one is drawn.
 ghost use Rattle.std.specs.Prelude.{◌≡◌, ◌<◌, ◌≤◌, ◌+◌, ◌*◌, ◌%◌, ◌^◌, ◌++◌, ◌∷◌, [], List, length, IsTrue, IfOk};
-ghost use Rattle.h265_model.specs.Plain.{block_at, Picture as ThePicture, coded};
+ghost use Rattle.h265_model.specs.Plain.{Picture as ThePicture, coded};
 ghost use Rattle.h265_model.specs.Tree.{thirds, ReadUnit, Copied, Moved, Samples, Levels};
 ghost use Rattle.h265_model.specs.Motion.{has_source};
 ghost use Rattle.h265_model.specs.Rebuild.{rebuild};
@@ -11,7 +11,7 @@ ghost use Rattle.canvas.specs.Drawing.{Draws, AreWhole, AreStill};
 use crate::predicted::draw_component;
 use crate::side::{area, side};
 use crate::source::moved;
-use h265_model::{NoMemory, Vector};
+use h265_model::{CodingBlock, NoMemory, Vector};
 use leaf_sink::{LeafSink, Residuals};
 use px_plane::{Picture, Size};
 use std::alloc::Global;
@@ -25,8 +25,8 @@ use std::marker::Model;
 pub struct Canvas {
     last: Picture,
     drawn: Picture,
-    // The samples of one component of a unit.
-    block: [u8; 1024],
+    // Room for the samples of one component of a unit.
+    room: [u8; 1024],
 }
 
 impl Model for Canvas {
@@ -54,7 +54,7 @@ impl Canvas {
         Ok(Canvas {
             last,
             drawn,
-            block: [0; 1024],
+            room: [0; 1024],
         })
     }
 
@@ -94,20 +94,21 @@ impl Canvas {
     }
 
     // Copies a block of the last picture.
-    fn copy(&mut self, x: u32, y: u32, log2: u32, vector: Vector)
-        requires low { 3 ≤ log2 }
-        requires high { log2 ≤ 5 }
-        requires across { x + 2 ^ log2 ≤ coded self.old.last.size.w }
-        requires down { y + 2 ^ log2 ≤ coded self.old.last.size.h }
-        requires source { IsTrue (has_source self.old.last.size (block_at x y log2) vector) }
+    fn copy(&mut self, block: CodingBlock, vector: Vector)
+        requires low { 3 ≤ block.log2 }
+        requires high { block.log2 ≤ 5 }
+        requires across { block.x + 2 ^ block.log2 ≤ coded self.old.last.size.w }
+        requires down { block.y + 2 ^ block.log2 ≤ coded self.old.last.size.h }
+        requires source { IsTrue (has_source self.old.last.size block vector) }
         ensures last { self.new.last ≡ self.old.last }
-        ensures copied { (units : List ReadUnit) → Draws self.old units → Draws self.new (units ++ unit x y log2 (Copied vector) ∷ []) }
-        ensures moved { (units : List ReadUnit) → Draws self.old units → Draws self.new (units ++ unit x y log2 (Moved vector) ∷ []) }
+        ensures copied { (units : List ReadUnit) → Draws self.old units → Draws self.new (units ++ unit block (Copied vector) ∷ []) }
+        ensures moved { (units : List ReadUnit) → Draws self.old units → Draws self.new (units ++ unit block (Moved vector) ∷ []) }
     {
-        let n = side(log2);
+        let n = side(block.log2);
         let _size = self.last.size();
-        let (from_x, from_y) = (moved(x, vector.x), moved(y, vector.y));
-        self.drawn.copy_block(&self.last, from_x, from_y, x, y, n);
+        let (from_x, from_y) = (moved(block.x, vector.x), moved(block.y, vector.y));
+        self.drawn
+            .copy_block(&self.last, from_x, from_y, block.x, block.y, n);
     }
 }
 
@@ -116,27 +117,29 @@ impl LeafSink for Canvas {
 
     ghost stands_for = { λ c units. Draws c units };
 
-    fn copied(&mut self, x: u32, y: u32, log2: u32, vector: Vector) {
-        self.copy(x, y, log2, vector);
+    fn copied(&mut self, block: CodingBlock, vector: Vector) {
+        self.copy(block, vector);
     }
 
-    fn moved(&mut self, x: u32, y: u32, log2: u32, vector: Vector) {
-        self.copy(x, y, log2, vector);
+    fn moved(&mut self, block: CodingBlock, vector: Vector) {
+        self.copy(block, vector);
     }
 
-    fn samples(&mut self, x: u32, y: u32, log2: u32, samples: &[u8]) {
-        let n = side(log2);
-        let area = area(log2);
-        self.drawn.put_block(0, x, y, n, &samples[..area]);
-        self.drawn.put_block(1, x, y, n, &samples[area..2 * area]);
+    fn samples(&mut self, block: CodingBlock, samples: &[u8]) {
+        let n = side(block.log2);
+        let area = area(block.log2);
         self.drawn
-            .put_block(2, x, y, n, &samples[2 * area..3 * area]);
+            .put_block(0, block.x, block.y, n, &samples[..area]);
+        self.drawn
+            .put_block(1, block.x, block.y, n, &samples[area..2 * area]);
+        self.drawn
+            .put_block(2, block.x, block.y, n, &samples[2 * area..3 * area]);
     }
 
-    fn levels(&mut self, x: u32, y: u32, log2: u32, mode: u32, residuals: Residuals) {
-        let Canvas { drawn, block, .. } = self;
-        draw_component(drawn, block, 0, x, y, log2, mode, residuals.luma);
-        draw_component(drawn, block, 1, x, y, log2, mode, residuals.cb);
-        draw_component(drawn, block, 2, x, y, log2, mode, residuals.cr);
+    fn levels(&mut self, block: CodingBlock, mode: u32, residuals: Residuals) {
+        let Canvas { drawn, room, .. } = self;
+        draw_component(drawn, room, 0, block, mode, residuals.luma);
+        draw_component(drawn, room, 1, block, mode, residuals.cb);
+        draw_component(drawn, room, 2, block, mode, residuals.cr);
     }
 }

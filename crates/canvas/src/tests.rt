@@ -5,6 +5,7 @@ ghost use Rattle.leaf_sink.specs.Units.{IsLong};
 
 use super::{Canvas, LeafSink, Residuals, Vector};
 use crate::side::{area, side};
+use h265_model::CodingBlock;
 use leaf_sink::has_source;
 use px_plane::{Picture, Size};
 use std::alloc::Global;
@@ -68,24 +69,22 @@ enum Content {
 
 #[derive(Clone, Copy)]
 struct Unit {
-    x: u32,
-    y: u32,
-    log2: u32,
+    block: CodingBlock,
     content: Content,
 }
 
-fn draw_samples(canvas: &mut Canvas, x: u32, y: u32, log2: u32, seed: usize)
+fn draw_samples(canvas: &mut Canvas, block: CodingBlock, seed: usize)
     requires size { canvas.old.last.size ≡ record { w = 40; h = 24 } }
-    requires low { 3 ≤ log2 }
-    requires high { log2 ≤ 5 }
-    requires column { x % 2 ^ log2 ≡ 0 }
-    requires row { y % 2 ^ log2 ≡ 0 }
-    requires across { x + 2 ^ log2 ≤ 40 }
-    requires down { y + 2 ^ log2 ≤ 24 }
+    requires low { 3 ≤ block.log2 }
+    requires high { block.log2 ≤ 5 }
+    requires column { block.x % 2 ^ block.log2 ≡ 0 }
+    requires row { block.y % 2 ^ block.log2 ≡ 0 }
+    requires across { block.x + 2 ^ block.log2 ≤ 40 }
+    requires down { block.y + 2 ^ block.log2 ≤ 24 }
     ensures { canvas.new.last.size ≡ record { w = 40; h = 24 } }
 {
     let samples = pattern(seed % 1000);
-    canvas.samples(x, y, log2, &samples[..3 * area(log2)]);
+    canvas.samples(block, &samples[..3 * area(block.log2)]);
 }
 
 fn levels_if(some: bool, log2: u32, levels: &[i16]) -> Option<&[i16]>
@@ -95,27 +94,27 @@ fn levels_if(some: bool, log2: u32, levels: &[i16]) -> Option<&[i16]>
     if some { Some(levels) } else { None }
 }
 
-fn draw_levels(canvas: &mut Canvas, x: u32, y: u32, log2: u32, mode: u32, seeds: [usize; 3])
+fn draw_levels(canvas: &mut Canvas, block: CodingBlock, mode: u32, seeds: [usize; 3])
     requires size { canvas.old.last.size ≡ record { w = 40; h = 24 } }
-    requires low { 3 ≤ log2 }
-    requires high { log2 ≤ 5 }
-    requires column { x % 2 ^ log2 ≡ 0 }
-    requires row { y % 2 ^ log2 ≡ 0 }
-    requires across { x + 2 ^ log2 ≤ 40 }
-    requires down { y + 2 ^ log2 ≤ 24 }
+    requires low { 3 ≤ block.log2 }
+    requires high { block.log2 ≤ 5 }
+    requires column { block.x % 2 ^ block.log2 ≡ 0 }
+    requires row { block.y % 2 ^ block.log2 ≡ 0 }
+    requires across { block.x + 2 ^ block.log2 ≤ 40 }
+    requires down { block.y + 2 ^ block.log2 ≤ 24 }
     requires mode { mode < 35 }
     ensures { canvas.new.last.size ≡ record { w = 40; h = 24 } }
 {
-    let n = area(log2);
+    let n = area(block.log2);
     let luma = pattern_of_levels(seeds[0] % 1000);
     let cb = pattern_of_levels(seeds[1] % 1000);
     let cr = pattern_of_levels(seeds[2] % 1000);
     let residuals = Residuals {
-        luma: levels_if(seeds[0] > 0, log2, &luma[..n]),
-        cb: levels_if(seeds[1] > 0, log2, &cb[..n]),
-        cr: levels_if(seeds[2] > 0, log2, &cr[..n]),
+        luma: levels_if(seeds[0] > 0, block.log2, &luma[..n]),
+        cb: levels_if(seeds[1] > 0, block.log2, &cb[..n]),
+        cr: levels_if(seeds[2] > 0, block.log2, &cr[..n]),
     };
-    canvas.levels(x, y, log2, mode, residuals);
+    canvas.levels(block, mode, residuals);
 }
 
 // Draws a unit, or gives false where it doesn't lie in the picture.
@@ -162,13 +161,8 @@ fn draw(canvas: &mut Canvas, unit: Unit) -> bool
     true
 }
 
-fn placed(x: u32, y: u32, log2: u32, content: Content) -> Unit {
-    Unit {
-        x,
-        y,
-        log2,
-        content,
-    }
+fn placed(block: CodingBlock, content: Content) -> Unit {
+    Unit { block, content }
 }
 
 // Draws a picture, or gives false.

@@ -7,7 +7,7 @@ use Rattle.h265_model.specs.Settings.{most_side, most_area}
 use Rattle.h265_model.specs.NalUnits.{NalUnit}
 use Rattle.h265_model.specs.Fields.{Field, U, Ue, fixed, golomb, fields_bits, aligned_bits, read_field, read_fields, read_trailing}
 
--- profile_tier_level, 96 bits (7.3.3), all of them field n of their table
+-- profile_tier_level, 96 bits (7.3.3, 7.4.4, A.3.5), all of them field n of their table
 unfoldable pub profile_tier_level : ℕ → List Field
 profile_tier_level n =
     -- general_profile_space
@@ -49,7 +49,7 @@ profile_tier_level n =
     -- general_level_idc: level 5.2
     fixed n 8 156 ∷ []
 
--- the video parameter set up to its profile_tier_level, and after it (7.3.2.1)
+-- the video parameter set up to its profile_tier_level (7.3.2.1)
 unfoldable pub vps_front : List Field
 vps_front =
     -- vps_video_parameter_set_id
@@ -67,6 +67,7 @@ vps_front =
     -- vps_reserved_0xffff_16bits
     fixed 7 16 65535 ∷ []
 
+-- the video parameter set after its profile_tier_level (7.3.2.1)
 unfoldable pub vps_back : List Field
 vps_back =
     -- vps_sub_layer_ordering_info_present_flag
@@ -86,9 +87,11 @@ vps_back =
     -- vps_extension_flag
     fixed 16 1 0 ∷ []
 
+-- the video parameter set (7.3.2.1)
 abbrev pub vps_fields : List Field
 vps_fields = vps_front ++ profile_tier_level 8 ++ vps_back
 
+-- the sequence parameter set between its profile_tier_level and the picture's size (7.3.2.2.1)
 unfoldable pub sps_formats : List Field
 sps_formats =
     -- sps_seq_parameter_set_id
@@ -98,7 +101,7 @@ sps_formats =
     -- separate_colour_plane_flag
     fixed 7 1 0 ∷ []
 
--- the sequence parameter set up to the picture's size (7.3.2.2)
+-- the sequence parameter set up to the picture's size (7.3.2.2.1)
 unfoldable pub sps_front : List Field
 sps_front =
     -- sps_video_parameter_set_id
@@ -110,10 +113,11 @@ sps_front =
     ++ profile_tier_level 4
     ++ sps_formats
 
--- the size of the coded picture, and the window of it that is shown
+-- conformance_window_flag: the coded picture is larger than what is shown of it (7.4.3.2.1)
 abbrev pub is_padded : Size → Bool
 is_padded size = not (size.w == coded size.w && size.h == coded size.h)
 
+-- the offsets of the conformance window, which shows the picture from the top left (7.3.2.2.1, 7.4.3.2.1)
 abbrev pub window_fields : Size → List Field
 window_fields size =
     if is_padded size then
@@ -121,10 +125,12 @@ window_fields size =
     golomb 11 0 ∷ golomb 12 (coded size.w - size.w) ∷ golomb 13 0 ∷ golomb 14 (coded size.h - size.h) ∷ []
     else []
 
+-- a flag as a number (plain)
 abbrev pub flag : Bool → ℕ
 flag true = 1
 flag false = 0
 
+-- the size of the coded picture, and the window of it that is shown (7.3.2.2.1)
 unfoldable pub size_fields : Size → List Field
 size_fields size =
     -- pic_width_in_luma_samples
@@ -135,7 +141,8 @@ size_fields size =
     fixed 10 1 (flag (is_padded size)) ∷
     window_fields size
 
--- after the size, with the VUI (E.2.1)
+-- the sequence parameter set after the picture's size (7.3.2.2.1), with st_ref_pic_set (7.3.7) and vui_parameters
+-- (E.2.1)
 unfoldable pub sps_back : List Field
 sps_back =
     -- bit_depth_luma_minus8
@@ -235,10 +242,11 @@ sps_back =
     -- sps_extension_present_flag
     fixed 62 1 0 ∷ []
 
+-- the sequence parameter set (7.3.2.2.1)
 abbrev pub sps_fields : Size → List Field
 sps_fields size = sps_front ++ size_fields size ++ sps_back
 
--- the picture parameter set up to dependent_slice_segments_enabled_flag, and after it (7.3.2.3)
+-- the picture parameter set up to dependent_slice_segments_enabled_flag (7.3.2.3.1)
 abbrev pub pps_front : List Field
 pps_front =
     -- pps_pic_parameter_set_id
@@ -246,6 +254,7 @@ pps_front =
     -- pps_seq_parameter_set_id
     golomb 2 0 ∷ []
 
+-- the picture parameter set after dependent_slice_segments_enabled_flag (7.3.2.3.1)
 abbrev pub pps_back : List Field
 pps_back =
     -- output_flag_present_flag
@@ -303,55 +312,69 @@ pps_back =
     -- pps_extension_present_flag
     fixed 30 1 0 ∷ []
 
--- with slices that have one segment, or one for each row of coding tree units (dependent_slice_segments_enabled_flag)
+-- the picture parameter set, of slices that have one segment, or one for each row
+-- (dependent_slice_segments_enabled_flag, 7.3.2.3.1)
 unfoldable pub pps_fields : Bool → List Field
 pps_fields segments = pps_front ++ fixed 3 1 (flag segments) ∷ pps_back
 
--- a parameter set's NAL unit: its header, its fields and trailing bits
+-- a parameter set's NAL unit: its header of nuh_layer_id 0 and temporal id 0, its fields and rbsp_trailing_bits
+-- (7.3.1.2, 7.3.2.11)
 abbrev pub set_unit : ℕ → List Field → NalUnit
 set_unit first fields = record { header = first ∷ 1 ∷ []; rbsp = bytes (aligned_bits (fields_bits fields)) }
 
--- the three parameter sets of a size, of streams whose pictures have one segment, or one for each row
+-- the three parameter sets of a size, VPS_NUT, SPS_NUT and PPS_NUT (7.4.2.2), of streams whose pictures have one
+-- segment, or one for each row
 unfoldable pub param_units : Size → Bool → List NalUnit
 param_units size segments = set_unit 0x40 vps_fields ∷ set_unit 0x42 (sps_fields size) ∷ set_unit 0x44 (pps_fields segments) ∷ []
 
 -- ---- reading
 
--- the first field that differs: the number of its set (0 VPS, 1 SPS, 2 PPS) and its number there; 0 is the NAL unit's header
+-- a rule of this project's own: the first field that differs, by the number of its set (0 VPS, 1 SPS, 2 PPS) and its
+-- number there; 0 is the NAL unit's header
 pub record BadParam : Type 0 where
   pub set : ℕ
   pub field : ℕ
 
+-- the number of a set beside that of its field (plain)
 abbrev pub in_set : {A : Type 0} → ℕ → Result A ℕ → Result A BadParam
 in_set set (Ok x) = Ok x
 in_set set (Err field) = Err (record { set = set; field = field })
 
--- the bits of a set with this header
+-- the parsing of a set's NAL unit header; the bits of its payload (7.3.1.1, 7.3.1.2)
 abbrev pub set_bits : ℕ → NalUnit → Result (List Bool) ℕ
 set_bits first unit = if bytes_eq unit.header (first ∷ 1 ∷ []) then Ok (bits unit.rbsp) else Err 0
 
+-- the parsing of a set with these fields alone, and of rbsp_trailing_bits (7.3.2.1, 7.3.2.11)
 abbrev pub read_fixed_set : ℕ → List Field → ℕ → NalUnit → Result (Unit {0}) ℕ
 read_fixed_set first fields trailing unit =
     set_bits first unit >>- λ bits. read_fields fields bits >>- λ rest. read_trailing trailing rest
 
--- a side of the coded picture: a multiple of 8 from 8 up
+-- a side of the coded picture: a multiple of MinCbSizeY, which is 8, from 8 up (7.4.3.2.1), to a limit of this
+-- project's own
 abbrev pub is_coded_side : ℕ → Bool
 is_coded_side n = n % 8 == 0 && nat_le 8 n && nat_le n most_side
 
+-- the parsing of pic_width_in_luma_samples or pic_height_in_luma_samples (7.3.2.2.1, 7.4.3.2.1)
 abbrev pub read_side : ℕ → List Bool → Result (ℕ × List Bool) ℕ
 read_side n bits = read_field n Ue bits >>- λ side. if is_coded_side side.0 then Ok side else Err n
 
+-- the parsing of conf_win_right_offset or conf_win_bottom_offset (7.3.2.2.1); above 7 there would be a block too
+-- many, which a rule of this project's own refuses
 abbrev pub read_offset : ℕ → List Bool → Result (ℕ × List Bool) ℕ
 read_offset n bits = read_field n Ue bits >>- λ offset. if nat_le offset.0 7 then Ok offset else Err n
 
--- the size of a coded picture without padding; with the four offsets of its window
+-- the size of a coded picture without a window (7.4.3.2.1), to a limit of this project's own on the area (A.4.1 has
+-- one on the coded one)
 abbrev pub read_whole : ℕ → ℕ → List Bool → Result (Size × List Bool) ℕ
 read_whole w h bits = if nat_le (w * h) most_area then Ok (record { w = w; h = h }, bits) else Err 10
 
+-- the size of a coded picture with the offsets of its window (7.4.3.2.1), to a limit of this project's own on the
+-- area; a window of the whole picture is refused, also by a rule of this project's own
 abbrev pub windowed : ℕ → ℕ → ℕ → ℕ → List Bool → Result (Size × List Bool) ℕ
 windowed w h right bottom bits =
     if nat_le ((w - right) * (h - bottom)) most_area && nat_lt 0 (right + bottom) then Ok (record { w = w - right; h = h - bottom }, bits) else Err 14
 
+-- the parsing of the conformance window's four offsets (7.3.2.2.1)
 abbrev pub read_window : ℕ → ℕ → List Bool → Result (Size × List Bool) ℕ
 read_window w h bits =
     read_fields (golomb 11 0 ∷ []) bits >>- λ bits.
@@ -360,6 +383,7 @@ read_window w h bits =
     read_offset 14 bits >>- λ bottom.
     windowed w h right.0 bottom.0 bottom.1
 
+-- the parsing of the coded picture's size and of the window of it that is shown (7.3.2.2.1)
 unfoldable pub read_size : List Bool → Result (Size × List Bool) ℕ
 read_size bits =
     read_side 8 bits >>- λ w.
@@ -367,6 +391,7 @@ read_size bits =
     read_field 10 (U 1) h.1 >>- λ window.
     if window.0 == 0 then read_whole w.0 h.0 window.1 else read_window w.0 h.0 window.1
 
+-- the parsing of the sequence parameter set (7.3.2.2.1): the size
 abbrev pub read_sps : NalUnit → Result Size ℕ
 read_sps unit =
     set_bits 0x42 unit >>- λ bits.
@@ -375,13 +400,14 @@ read_sps unit =
     read_fields sps_back size.1 >>- λ bits.
     read_trailing 63 bits >>- λ _. Ok size.0
 
--- dependent_slice_segments_enabled_flag, which is 0 where a picture is at most one coding tree block wide
+-- the parsing of dependent_slice_segments_enabled_flag (7.3.2.3.1), which a rule of this project's own refuses where
+-- a picture is at most one coding tree block wide
 abbrev pub segments_flag : Size → List Bool → Result (Bool × List Bool) ℕ
 segments_flag size bits =
     read_field 3 (U 1) bits >>- λ found.
     if found.0 == 0 then Ok (false, found.1) else if nat_lt 32 (coded size.w) then Ok (true, found.1) else Err 3
 
--- whether a picture has a segment for each row
+-- the parsing of the picture parameter set (7.3.2.3.1): whether a picture has a segment for each row
 abbrev pub read_pps : Size → NalUnit → Result Bool ℕ
 read_pps size unit =
     set_bits 0x44 unit >>- λ bits.
@@ -390,13 +416,15 @@ read_pps size unit =
     read_fields pps_back segments.1 >>- λ bits.
     read_trailing 31 bits >>- λ _. Ok segments.0
 
+-- the parsing of a VPS, an SPS and a PPS, in this order (7.3.2.1, 7.3.2.2.1, 7.3.2.3.1)
 abbrev pub read_three : NalUnit → NalUnit → NalUnit → Result (Size × Bool) BadParam
 read_three vps sps pps =
     in_set 0 (read_fixed_set 0x40 vps_fields 17 vps) >>- λ _.
     in_set 1 (read_sps sps) >>- λ size.
     in_set 2 (read_pps size pps) >>- λ segments. Ok (size, segments)
 
--- the size that three parameter sets tell, and whether a picture has a segment for each row, or the first field that differs
+-- the size that three parameter sets tell, and whether a picture has a segment for each row, or the first field that
+-- differs (7.3.2.1, 7.3.2.2.1, 7.3.2.3.1)
 unfoldable pub read_params : List NalUnit → Result (Size × Bool) BadParam
 read_params (vps ∷ sps ∷ pps ∷ []) = read_three vps sps pps
 read_params _ = Err (record { set = 0; field = 0 })

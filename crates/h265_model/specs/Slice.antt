@@ -1,5 +1,5 @@
--- Slice data: the bytes of rows and their contexts, and reading them, in one segment with entry points or in one for each row
--- (7.3.8.1, 7.4.7.1, 9.3.1, 9.3.2).
+-- Slice data: the bytes of rows and their contexts, and reading them, in one segment with entry points or in one for
+-- each row (7.3.8.1, 7.4.7.1, 9.3.1, 9.3.2).
 use Rattle.std.specs.Prelude.{ℕ, zero, suc, ◌+◌, ◌&&◌, List, [], ◌∷◌, ◌++◌, map, Option, Some, None, ◌==◌, nat_le, if◌then◌else◌, ◌<◌, ◌≡◌, ◌*◌, length, true}
 use Rattle.h265_model.specs.declared.leaf.SliceKind.{SliceKind}
 use Rattle.h265_model.specs.declared.leaf.Leaf.{Leaf}
@@ -15,28 +15,31 @@ use Rattle.h265_model.specs.Motion.{Moving}
 
 -- ---- writing, with the units of each coding tree unit of the picture
 
--- the contexts that a row starts from: those after the second coding tree unit of the row above, where there are such (9.3.1).
--- The flags between coding tree units have no contexts, so these are the same in slices and segments
+-- the contexts that a row starts from: those after the second coding tree unit of the row above, where there are
+-- such (9.3.1). The flags between coding tree units have no contexts, so these are the same in slices and segments
 unfoldable pub contexts_at : {Unit Kept : Type 0} → SliceKind → Units Unit Kept → Size → List (List Unit) → ℕ → List ℕ
 contexts_at kind units size lists zero = row_start kind (ctus size.w) 0 []
 contexts_at kind units size lists (suc row) =
     row_start kind (ctus size.w) (suc row)
     (contexts_after (ctus_items units size (is_last size) lists row 2) (contexts_at kind units size lists row))
 
--- the bytes of a row, and of the data of a row that is a segment
+-- the bytes of a row, as a substream (7.3.8.1, 9.3.5.1)
 abbrev pub row_code : {Unit Kept : Type 0} → SliceKind → Units Unit Kept → Size → List (List Unit) → ℕ → List ℕ
 row_code kind units size lists row = code (items_of_row units size lists row) (contexts_at kind units size lists row)
 
+-- the bytes of the data of a row that is a slice segment (7.3.8.1, 9.3.5.1)
 abbrev pub segment_code : {Unit Kept : Type 0} → SliceKind → Units Unit Kept → Size → List (List Unit) → ℕ → List ℕ
 segment_code kind units size lists row = code (items_of_segment units size lists row) (contexts_at kind units size lists row)
 
 -- ---- reading
 
+-- a byte before the front of a cut (plain)
 abbrev pub with_front : ℕ → Option (List ℕ × List ℕ) → Option (List ℕ × List ℕ)
 with_front b None = None
 with_front b (Some cut) = Some (b ∷ cut.0, cut.1)
 
--- the front of these bytes that takes n bytes with its emulation prevention, and the rest. The bytes before were p and then q.
+-- the front of these bytes that takes n bytes with its emulation prevention, and the rest. The bytes before were p
+-- and then q (7.4.2.1, 7.4.7.1)
 unfoldable pub cut_after : ℕ → ℕ → ℕ → List ℕ → Option (List ℕ × List ℕ)
 cut_after p q zero bytes = Some ([], bytes)
 cut_after p q (suc n) [] = None
@@ -44,7 +47,7 @@ cut_after p q (suc n) (b ∷ bytes) =
     if p == 0 && q == 0 && nat_le b 3 then elim n [ zero ↦ None | suc m ↦ with_front b (cut_after 3 b m bytes) ]
     else with_front b (cut_after q b n bytes)
 
--- the substreams by the entry points; the last takes the rest (7.4.7.1)
+-- the substreams by the entry points; the last takes the rest (entry_point_offset_minus1, 7.4.7.1)
 unfoldable pub substreams : List ℕ → List ℕ → Option (List (List ℕ))
 substreams [] bytes = Some (bytes ∷ [])
 substreams (offset ∷ offsets) bytes = do
@@ -52,32 +55,32 @@ substreams (offset ∷ offsets) bytes = do
   others ← substreams offsets cut.1
   Some (cut.0 ∷ others)
 
--- end_of_subset_one_bit, after each row but the last
+-- the parsing of end_of_subset_one_bit, after each row but the last (7.3.8.1)
 abbrev pub subset_end : Size → ℕ → List ReadCtu → Reader (List ReadCtu)
 subset_end size row read = if row + 1 == ctus size.h then give read else expect Terminate true (give read)
 
--- 7.3.8.1: a row of a slice that is one segment, after the units of the rows above
+-- the parsing of a row of a slice that is one segment, after the units of the rows above (7.3.8.1)
 unfoldable pub slice_row_read : SliceKind → Size → ℕ → List Moving → Reader (List ReadCtu)
 slice_row_read kind size row before =
     Engine.◌>>=◌ (ctus_read kind size (is_last size) (ctus size.w) (row * ctus size.w) before) (subset_end size row)
 
--- the same of a row that is a segment of its own: end_of_slice_segment_flag ends it
+-- the parsing of a row that is a slice segment: end_of_slice_segment_flag ends it (7.3.8.1)
 unfoldable pub segment_row_read : SliceKind → Size → ℕ → List Moving → Reader (List ReadCtu)
 segment_row_read kind size row before = ctus_read kind size (ends_row size) (ctus size.w) (row * ctus size.w) before
 
--- what a row hands on: the contexts after its second coding tree unit (9.3.2.2, TableStateIdxWpp)
+-- TableStateIdxWpp: what a row hands on, the contexts after its second coding tree unit (9.3.1, 9.3.2.3)
 abbrev pub handed_on : List ReadCtu → List ℕ
 handed_on (first ∷ second ∷ ctus) = second.contexts
 handed_on _ = []
 
--- a row is read from these bytes, all of them
+-- the parsing of a row from these bytes, all of them (7.3.8.1, 9.3.1)
 unfoldable pub row_of_bytes : Reader (List ReadCtu) → List ℕ → List ℕ → Option (List ReadCtu)
 row_of_bytes row_read contexts bytes = do
   first ← start contexts (bits bytes)
   read ← row_read first
   if is_done read.1 then Some read.0 else None
 
--- the rows from this number on, after these units and what the row above handed on
+-- the parsing of the rows from this number on, after these units and what the row above handed on (7.3.8.1, 9.3.1)
 unfoldable pub rows_read : SliceKind → Size → ℕ → List Moving → List ℕ → List (List ℕ) → Option (List ReadUnit)
 rows_read kind size row before handed [] = Some []
 rows_read kind size row before handed (bytes ∷ rows) = do
@@ -85,18 +88,18 @@ rows_read kind size row before handed (bytes ∷ rows) = do
   others ← rows_read kind size (row + 1) (units_after before (units_of read)) (handed_on read) rows
   Some (units_of read ++ others)
 
--- what slice data after a header with these entry points holds, by coding unit
+-- the parsing of slice_segment_data after a header with these entry points: what it holds, by coding unit (7.3.8.1)
 abbrev pub slice_read : SliceKind → Size → List ℕ → List ℕ → Option (List ReadUnit)
 slice_read kind size offsets bytes = do
   rows ← substreams offsets bytes
   rows_read kind size 0 [] [] rows
 
--- what the data of the segment of a row holds, after these units and what the row above handed on
+-- the parsing of slice_segment_data of a row, after these units and what the row above handed on (7.3.8.1)
 abbrev pub segment_read : SliceKind → Size → ℕ → List Moving → List ℕ → List ℕ → Option (List ReadCtu)
 segment_read kind size row before handed bytes =
     row_of_bytes (segment_row_read kind size row before) (row_start kind (ctus size.w) row handed) bytes
 
--- what is written as a slice: lawful leaves of all coding tree units, with their levels and samples
+-- what is written as a slice: lawful leaves of all coding tree units, with their levels and samples (7.3.8.1)
 pub record IsSlice (kind : SliceKind) (size : Size) (source : Source) (leaves : List (List Leaf)) : Type 0 where
   pub wide : 0 < ctus size.w
   pub many : length leaves ≡ ctus size.w * ctus size.h

@@ -6,9 +6,10 @@ use Rattle.h265_model.specs.Plain.{block_at, Size, covers}
 use Rattle.h265_model.specs.Predict.{is_available, square}
 use Rattle.h265_model.specs.Tree.{ReadUnit, Content, leaf_of}
 use Rattle.leaf_sink.specs.declared.residuals.Residuals.{Residuals}
+use Rattle.h265_model.specs.declared.block.CodingBlock.{CodingBlock}
 
-abbrev pub unit : ℕ → ℕ → ℕ → Content → ReadUnit
-unit x y log2 content = record { block = block_at x y log2; content = content }
+abbrev pub unit : CodingBlock → Content → ReadUnit
+unit block content = record { block = block; content = content }
 
 -- one of these units covers the place
 abbrev pub is_covered : List ReadUnit → ℕ → ℕ → Bool

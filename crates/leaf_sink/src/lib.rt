@@ -9,3 +9,6 @@ pub use h265_model::Vector;
 pub use residuals::Residuals;
 pub use sink::LeafSink;
 pub use source::has_source;
+
+#[cfg(test)]
+mod tests;

@@ -1,9 +1,9 @@
 //! Where a unit is copied from.
 ghost use Rattle.std.specs.Prelude.{◌≡◌, ◌<◌, ◌≤◌, ◌^◌};
-ghost use Rattle.h265_model.specs.Plain.{block_at, coded};
+ghost use Rattle.h265_model.specs.Plain.{coded};
 ghost use Rattle.h265_model.specs.Motion as motion;
 
-use h265_model::Vector;
+use h265_model::{CodingBlock, Vector};
 use px_plane::Size;
 
 // Along one axis: whether `n` places from a place on are in a picture of this side after they were moved.
@@ -34,17 +34,18 @@ fn coded_side(side: u32) -> u32
 
 /// Whether the block that a vector names lies wholly in the coded picture, for the block of side 2^log2 at (x, y).
 #[tactic(auto, unfolding(h265_model::specs::Motion::has_source))]
-pub fn has_source(size: Size, x: u32, y: u32, log2: u32, vector: Vector) -> bool
-    requires low { 3 ≤ log2 }
-    requires high { log2 ≤ 5 }
-    requires across { x < coded size.w }
-    requires down { y < coded size.h }
-    ensures { result ≡ motion.has_source size (block_at x y log2) vector }
+pub fn has_source(size: Size, block: CodingBlock, vector: Vector) -> bool
+    requires low { 3 ≤ block.log2 }
+    requires high { block.log2 ≤ 5 }
+    requires across { block.x < coded size.w }
+    requires down { block.y < coded size.h }
+    ensures { result ≡ motion.has_source size block vector }
 {
-    let n = match log2 {
+    let n = match block.log2 {
         3 => 8,
         4 => 16,
         _ => 32,
     };
-    reaches(coded_side(size.w()), n, x, vector.x) && reaches(coded_side(size.h()), n, y, vector.y)
+    reaches(coded_side(size.w()), n, block.x, vector.x)
+        && reaches(coded_side(size.h()), n, block.y, vector.y)
 }

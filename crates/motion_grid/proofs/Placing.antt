@@ -11,7 +11,7 @@ use Rattle.std.proofs.lemmas.Nat.{mul-le}
 use Rattle.h265_model.specs.declared.leaf.Kind.{Kind}
 use Rattle.h265_model.specs.declared.leaf.Leaf.{Leaf}
 use Rattle.h265_model.specs.declared.moves.Vector.{Vector}
-use Rattle.h265_model.specs.Plain.{Size, coded, covers}
+use Rattle.h265_model.specs.Plain.{block_at, Size, coded, covers}
 use Rattle.h265_model.specs.Motion.{Moving}
 use Rattle.motion_grid.specs.declared.cells.Cell.{Cell}
 use Rattle.motion_grid.specs.Cells.{Cells, AreCells, HasMotion, IsFilled, is_within, blocks, cell_at, kept_of, unit_at, coded_unit}
@@ -128,7 +128,7 @@ pub set_is : (old new : Cells) (x y log2 : ℕ) (vector : Option Vector) (side :
     → 3 ≤ log2 → log2 ≤ 5 → x % 2 ^ log2 ≡ 0 → y % 2 ^ log2 ≡ 0 → x + 2 ^ log2 ≤ coded old.size.w → y + 2 ^ log2 ≤ coded old.size.h
     → new.size ≡ old.size → side ≡ 2 ^ (log2 - 3)
     → IsFilled old.cells new.cells (blocks old.size.w) (x / 8) (x / 8 + side) (y / 8) (y / 8 + side) (record { vector = vector })
-    → (units : List Moving) → HasMotion old units → (kind : Kind) → HasMotion new (units ++ coded_unit x y log2 kind vector ∷ [])
+    → (units : List Moving) → HasMotion old units → (kind : Kind) → HasMotion new (units ++ coded_unit (block_at x y log2) kind vector ∷ [])
 unfolding cell_at
 set_is old new x y log2 vector side low high column row across down size long filled units has kind = record {
   each = λ px py. ap (λ (s : Size). cond (nat_lt px (coded s.w) && nat_lt py (coded s.h)) (get_or new.cells (py / 8 * blocks s.w + px / 8) None) None) size
@@ -136,7 +136,7 @@ set_is old new x y log2 vector side low high column row across down size long fi
 }
   where
     unit : Moving
-    unit = coded_unit x y log2 kind vector
+    unit = coded_unit (block_at x y log2) kind vector
 
     go : (px py : ℕ) (t : Bool) → (nat_lt px (coded old.size.w) && nat_lt py (coded old.size.h)) ≡ t
         → cond t (get_or old.cells (py / 8 * blocks old.size.w + px / 8) None) None ≡ kept_of (unit_at units px py)

@@ -8,6 +8,7 @@ use Rattle.h265_model.specs.Plain.{block_at, Size, coded, leaf_with, covers}
 use Rattle.h265_model.specs.Settings.{is_size}
 use Rattle.h265_model.specs.Motion.{Moving}
 use Rattle.motion_grid.specs.declared.cells.Cell.{Cell}
+use Rattle.h265_model.specs.declared.block.CodingBlock.{CodingBlock}
 
 -- the size of a picture, and what is kept of each of its blocks of 8x8, in rows from the top
 pub record Cells : Type 0 where
@@ -41,8 +42,8 @@ pub record HasMotion (g : Cells) (units : List Moving) : Type 0 where
   pub each : (x y : ℕ) → cell_at g x y ≡ kept_of (unit_at units x y)
 
 -- a unit of any kind, as it is coded
-abbrev pub coded_unit : ℕ → ℕ → ℕ → Kind → Option Vector → Moving
-coded_unit x y log2 kind vector = record { leaf = leaf_with (block_at x y log2) kind; vector = vector }
+abbrev pub coded_unit : CodingBlock → Kind → Option Vector → Moving
+coded_unit block kind vector = record { leaf = leaf_with block kind; vector = vector }
 
 -- ---- how cells are filled
 

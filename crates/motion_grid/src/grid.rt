@@ -1,14 +1,14 @@
 //! The motion of the coding units of a picture that are coded already.
 ghost use Rattle.std.specs.Prelude.{◌≡◌, ℕ, ◌+◌, ◌*◌, ◌%◌, ◌^◌, ◌<◌, ◌≤◌, List, [], ◌∷◌, ◌++◌, IfOk};
 ghost use Rattle.h265_model.specs.declared.leaf.Kind.{Kind};
-ghost use Rattle.h265_model.specs.Plain.{block_at, coded};
+ghost use Rattle.h265_model.specs.Plain.{coded};
 ghost use Rattle.h265_model.specs.Motion as motion;
 ghost use Rattle.h265_model.specs.Motion.{Moving};
 ghost use Rattle.motion_grid.specs.Cells.{blocks, cell_at, kept_before, HasMotion, coded_unit};
 
 use crate::cells::{Cell, empty, fill_square};
 use crate::neighbours::{NO_MOTION, two_of};
-use h265_model::{NoMemory, Vector};
+use h265_model::{CodingBlock, NoMemory, Vector};
 use px_plane::Size;
 use std::alloc::Global;
 use std::marker::Model;
@@ -81,20 +81,20 @@ impl MotionGrid {
 
     /// Sets the unit of side 2^log2 at (x, y), with the vector by which it was copied, or `None` where it wasn't. It lies in the coded picture, at
     /// multiples of its side, which is 8, 16 or 32.
-    pub fn set(&mut self, x: u32, y: u32, log2: u32, vector: Option<Vector>)
-        requires low { 3 ≤ log2 }
-        requires high { log2 ≤ 5 }
-        requires column { x % 2 ^ log2 ≡ 0 }
-        requires row { y % 2 ^ log2 ≡ 0 }
-        requires across { x + 2 ^ log2 ≤ coded self.old.size.w }
-        requires down { y + 2 ^ log2 ≤ coded self.old.size.h }
+    pub fn set(&mut self, block: CodingBlock, vector: Option<Vector>)
+        requires low { 3 ≤ block.log2 }
+        requires high { block.log2 ≤ 5 }
+        requires column { block.x % 2 ^ block.log2 ≡ 0 }
+        requires row { block.y % 2 ^ block.log2 ≡ 0 }
+        requires across { block.x + 2 ^ block.log2 ≤ coded self.old.size.w }
+        requires down { block.y + 2 ^ block.log2 ≤ coded self.old.size.h }
         ensures size { self.new.size ≡ self.old.size }
-        ensures set { (units : List Moving) → HasMotion self.old units → (kind : Kind) → HasMotion self.new (units ++ coded_unit x y log2 kind vector ∷ []) }
+        ensures set { (units : List Moving) → HasMotion self.old units → (kind : Kind) → HasMotion self.new (units ++ coded_unit block kind vector ∷ []) }
     {
         let columns = blocks_of(self.size.w());
-        let left = (x / 8) as usize;
-        let top = (y / 8) as usize;
-        let side = 1 << (log2 - 3);
+        let left = (block.x / 8) as usize;
+        let top = (block.y / 8) as usize;
+        let side = 1 << (block.log2 - 3);
         fill_square(&mut self.cells, columns, left, top, side, Cell { vector });
     }
 
@@ -148,33 +148,35 @@ impl MotionGrid {
     }
 
     /// The merge vector of a block of side 2^log2 at (x, y): that of the one merging candidate (8.5.3.2.2).
-    pub fn merge(&self, x: u32, y: u32, log2: u32) -> Vector
-        requires low { 3 ≤ log2 }
-        requires high { log2 ≤ 5 }
-        requires across { x < coded self.now.size.w }
-        requires down { y < coded self.now.size.h }
-        ensures { (units : List Moving) → HasMotion self.now units → result ≡ motion.merge units (block_at x y log2) }
+    pub fn merge(&self, block: CodingBlock) -> Vector
+        requires low { 3 ≤ block.log2 }
+        requires high { block.log2 ≤ 5 }
+        requires across { block.x < coded self.now.size.w }
+        requires down { block.y < coded self.now.size.h }
+        ensures { (units : List Moving) → HasMotion self.now units → result ≡ motion.merge units block }
     {
-        let n = side(log2);
+        let n = side(block.log2);
         let (_w, _h) = (self.size.w(), self.size.h());
-        self.neighbour(x, y, n).unwrap_or(NO_MOTION)
+        self.neighbour(block.x, block.y, n).unwrap_or(NO_MOTION)
     }
 
     /// The two motion vector predictors of a block of side 2^log2 at (x, y) (8.5.3.2.6 and 8.5.3.2.7).
-    pub fn predictors(&self, x: u32, y: u32, log2: u32) -> (Vector, Vector)
-        requires low { 3 ≤ log2 }
-        requires high { log2 ≤ 5 }
-        requires across { x < coded self.now.size.w }
-        requires down { y < coded self.now.size.h }
-        ensures { (units : List Moving) → HasMotion self.now units → result ≡ motion.predictors units (block_at x y log2) }
+    pub fn predictors(&self, block: CodingBlock) -> (Vector, Vector)
+        requires low { 3 ≤ block.log2 }
+        requires high { block.log2 ≤ 5 }
+        requires across { block.x < coded self.now.size.w }
+        requires down { block.y < coded self.now.size.h }
+        ensures { (units : List Moving) → HasMotion self.now units → result ≡ motion.predictors units block }
     {
-        let n = side(log2);
+        let n = side(block.log2);
         let (_w, _h) = (self.size.w(), self.size.h());
-        let left = self.before(x, y + n + 1).or(self.before(x, y + n));
+        let left = self
+            .before(block.x, block.y + n + 1)
+            .or(self.before(block.x, block.y + n));
         let above = self
-            .before(x + n + 1, y)
-            .or(self.before(x + n, y))
-            .or(self.before(x, y));
+            .before(block.x + n + 1, block.y)
+            .or(self.before(block.x + n, block.y))
+            .or(self.before(block.x, block.y));
         two_of(left, above)
     }
 }

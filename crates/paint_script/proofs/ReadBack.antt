@@ -13,7 +13,7 @@ use Rattle.std.specs.Option.{option_copied, is_some}
 use Rattle.std.proofs.lemmas.List.Elements.{All-nil, All-cons, All-head, All-tail, All-append, All-weaker, All-from_recursion}
 use Rattle.std.proofs.lemmas.List.Splits.{slice_split_at, slice_split_none}
 use Rattle.std.proofs.lemmas.Bool.{cond-true, cond-false, ne_eqb, le-leb, lt-leb, lt-ltb, le-ltb, and_from, and_right, cases_lt, or_from}
-use Rattle.recorder_model.specs.Script.{most_number, most_pixels, hex_digit, hex_value, byte_at, colour_text, spaced, rect_text, line_text, lines_text, script_text, version_line, all_digits, is_numeral, number_up_to, colours, n_colours, rect_of, fill_of, blit_of, copy_of, line_of, pieces_script, script_of, at_line}
+use Rattle.recorder_model.specs.Script.{most_number, most_pixels, hex_digit, hex_value, byte_at, colour_text, spaced, rect_text, line_text, lines_text, script_text, version_line, all_digits, is_numeral, number_up_to, colours, n_colours, rect_of, fill_of, blit_of, copy_of, line_of, pieces_script, at_line}
 use Rattle.h265_model.specs.Bits.{◌>>-◌}
 use Rattle.h265_model.specs.declared.rect.Rect.{Rect}
 use Rattle.h265_model.specs.declared.rgb.Rgb.{Rgb}

@@ -1,5 +1,5 @@
 //! Decimal numbers.
-ghost use Rattle.std.specs.Prelude.{◌≡◌, ◌≤◌, true, nat_le, if◌then◌else◌};
+ghost use Rattle.std.specs.Prelude.{◌≡◌, ◌≤◌, ◌&&◌, not, nat_le, if◌then◌else◌};
 ghost use Rattle.std.specs.Option.{IfSome};
 ghost use Rattle.std.specs.Str.Parse.{digits_value};
 ghost use Rattle.recorder_model.specs.Script as script;
@@ -10,48 +10,39 @@ pub fn number_up_to(word: &[u8], most: u64) -> Option<u64>
     ensures value { result ≡ script.number_up_to most word.now }
     ensures within { IfSome result (λ n. n ≤ most) }
 {
-    if is_numeral(word) {
-        value_up_to(word, most)
-    } else {
+    if lacks_first_digit(word) {
         None
+    } else {
+        value_up_to(word, most)
     }
 }
 
-// Decimal digits, at least one, without a leading zero.
-fn is_numeral(word: &[u8]) -> bool
-    ensures { result ≡ script.is_numeral word.now }
+// Whether a word is empty, or has a zero before other bytes.
+fn lacks_first_digit(word: &[u8]) -> bool
+    ensures { script.is_numeral word.now ≡ (not result && script.all_digits word.now) }
 {
     match word {
-        [] => false,
-        [digit] => digit.is_ascii_digit(),
-        [first, rest @ ..] => *first != b'0' && first.is_ascii_digit() && all_digits(rest),
+        [] => true,
+        [_] => false,
+        [first, ..] => *first == b'0',
     }
 }
 
-fn all_digits(text: &[u8]) -> bool
-    ensures { result ≡ script.all_digits text.now }
-{
-    for digit in text {
-        if !digit.is_ascii_digit() {
-            return false;
-        }
-    }
-    true
-}
-
-// The value of these digits, if it is at most `most`.
-fn value_up_to(digits: &[u8], most: u64) -> Option<u64>
-    requires { script.all_digits digits.now ≡ true }
-    ensures value { result ≡ (if nat_le (digits_value 10 digits.now) most then Some (digits_value 10 digits.now) else None) }
+// The value of a text, if all of it is digits, and it is at most `most`.
+fn value_up_to(text: &[u8], most: u64) -> Option<u64>
+    ensures value { result ≡ (if script.all_digits text.now && nat_le (digits_value 10 text.now) most then Some (digits_value 10 text.now) else None) }
     ensures within { IfSome result (λ n. n ≤ most) }
 {
     let mut value: u64 = 0;
-    for digit in digits {
-        let next = u128::from(value) * 10 + u128::from(digit - b'0');
-        if next > u128::from(most) {
+    for digit in text {
+        if !digit.is_ascii_digit() {
             return None;
         }
-        value = next as u64;
+        let next = value.checked_mul(10)?.checked_add(u64::from(digit - b'0'))?;
+        if next > most {
+            return None;
+        }
+        value = next;
     }
     Some(value)
 }

@@ -7,7 +7,7 @@ ghost use Rattle.paint_script.specs.Spellable.{IsVersion};
 
 use crate::line::{LineError, read_line};
 use crate::script::Script;
-use crate::split::split_once;
+use crate::split::split_line;
 use h265_model::NoMemory;
 use recorder_model::Cause;
 use std::alloc::Global;
@@ -38,10 +38,17 @@ impl From<NoMemory> for ScriptError {
 // The bytes of the shortest line that paints, `copy 0 0 1 1 0 0` with its line feed.
 const SHORTEST_PAINT: usize = 17;
 
-fn line_feeds(bytes: &[u8]) -> usize
+fn line_feeds(bytes: &[u8]) -> u32
+    requires { length bytes.now < 2 ^ 32 }
     ensures { result ≡ count_by (λ c. c == 10) bytes.now }
 {
-    bytes.iter().filter(|byte| **byte == b'\n').count()
+    let mut count = 0;
+    for byte in bytes {
+        if *byte == b'\n' {
+            count += 1;
+        }
+    }
+    count
 }
 
 // The version of a file, and what follows its first line where that says the version.
@@ -68,10 +75,10 @@ pub fn read_script(alloc: Global, bytes: &[u8]) -> Result<Script, ScriptError>
     ensures refused { IfErr result (IsRefusal (script_of bytes.now)) }
 {
     let (version, mut rest) = opening(bytes);
-    let lines = line_feeds(rest);
+    let lines = line_feeds(rest) as usize;
     let paints = lines.min(rest.len() / SHORTEST_PAINT);
     let mut script = Script::with_capacity(alloc, version, lines, paints)?;
-    while let Some((text, next)) = split_once(rest, b'\n') {
+    while let Some((text, next)) = split_line(rest) {
         match read_line(alloc, version, text) {
             Ok(line) => {
                 script.add(line)?;

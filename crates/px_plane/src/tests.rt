@@ -228,16 +228,89 @@ fn copies_as_the_model(rt: HostRuntime) -> Result<(), Fail> {
     }
     numbered.blit(rect(0, 0, 6, 5), &pixels);
     for (whole, to_x, to_y, rows) in [
+        // to each of the eight places beside it
         (
-            rect(0, 0, 4, 3),
-            1,
+            rect(1, 1, 4, 3),
+            0,
             1,
             [
                 [1, 2, 3, 4, 5, 6],
-                [7, 1, 2, 3, 4, 12],
-                [13, 7, 8, 9, 10, 18],
-                [19, 13, 14, 15, 16, 24],
+                [8, 9, 10, 11, 11, 12],
+                [14, 15, 16, 17, 17, 18],
+                [20, 21, 22, 23, 23, 24],
                 [25, 26, 27, 28, 29, 30],
+            ],
+        ),
+        (
+            rect(1, 1, 4, 3),
+            1,
+            0,
+            [
+                [1, 8, 9, 10, 11, 6],
+                [7, 14, 15, 16, 17, 12],
+                [13, 20, 21, 22, 23, 18],
+                [19, 20, 21, 22, 23, 24],
+                [25, 26, 27, 28, 29, 30],
+            ],
+        ),
+        (
+            rect(1, 1, 4, 3),
+            2,
+            1,
+            [
+                [1, 2, 3, 4, 5, 6],
+                [7, 8, 8, 9, 10, 11],
+                [13, 14, 14, 15, 16, 17],
+                [19, 20, 20, 21, 22, 23],
+                [25, 26, 27, 28, 29, 30],
+            ],
+        ),
+        (
+            rect(1, 1, 4, 3),
+            1,
+            2,
+            [
+                [1, 2, 3, 4, 5, 6],
+                [7, 8, 9, 10, 11, 12],
+                [13, 8, 9, 10, 11, 18],
+                [19, 14, 15, 16, 17, 24],
+                [25, 20, 21, 22, 23, 30],
+            ],
+        ),
+        (
+            rect(1, 1, 4, 3),
+            2,
+            0,
+            [
+                [1, 2, 8, 9, 10, 11],
+                [7, 8, 14, 15, 16, 17],
+                [13, 14, 20, 21, 22, 23],
+                [19, 20, 21, 22, 23, 24],
+                [25, 26, 27, 28, 29, 30],
+            ],
+        ),
+        (
+            rect(1, 1, 4, 3),
+            0,
+            2,
+            [
+                [1, 2, 3, 4, 5, 6],
+                [7, 8, 9, 10, 11, 12],
+                [8, 9, 10, 11, 17, 18],
+                [14, 15, 16, 17, 23, 24],
+                [20, 21, 22, 23, 29, 30],
+            ],
+        ),
+        (
+            rect(1, 1, 4, 3),
+            2,
+            2,
+            [
+                [1, 2, 3, 4, 5, 6],
+                [7, 8, 9, 10, 11, 12],
+                [13, 14, 8, 9, 10, 11],
+                [19, 20, 14, 15, 16, 17],
+                [25, 26, 20, 21, 22, 23],
             ],
         ),
         (
@@ -252,30 +325,7 @@ fn copies_as_the_model(rt: HostRuntime) -> Result<(), Fail> {
                 [25, 26, 27, 28, 29, 30],
             ],
         ),
-        (
-            rect(0, 1, 5, 2),
-            1,
-            1,
-            [
-                [1, 2, 3, 4, 5, 6],
-                [7, 7, 8, 9, 10, 11],
-                [13, 13, 14, 15, 16, 17],
-                [19, 20, 21, 22, 23, 24],
-                [25, 26, 27, 28, 29, 30],
-            ],
-        ),
-        (
-            rect(1, 0, 4, 4),
-            0,
-            1,
-            [
-                [1, 2, 3, 4, 5, 6],
-                [2, 3, 4, 5, 11, 12],
-                [8, 9, 10, 11, 17, 18],
-                [14, 15, 16, 17, 23, 24],
-                [20, 21, 22, 23, 29, 30],
-            ],
-        ),
+        // further, and where sources or targets lie beside the desktop
         (
             rect(2, 0, 3, 3),
             0,
@@ -381,5 +431,40 @@ fn copies_as_the_model(rt: HostRuntime) -> Result<(), Fail> {
         assert_eq!(rt; picture.sample(0, 6, 0), 0);
         assert_eq!(rt; picture.sample(0, 0, 5), 0);
     }
+    Ok(())
+}
+
+// The digest of a plane of 16 by 16.
+fn digest(samples: &[u8]) -> u32 {
+    let mut digest = 0u32;
+    for sample in samples {
+        digest = digest.wrapping_mul(31).wrapping_add(u32::from(*sample));
+    }
+    digest
+}
+
+fn digests(picture: &Picture) -> (u32, u32, u32) {
+    (
+        digest(picture.plane(0)),
+        digest(picture.plane(1)),
+        digest(picture.plane(2)),
+    )
+}
+
+#[test]
+fn squares(rt: HostRuntime) -> Result<(), Fail> {
+    let size = Size::new(11, 9).ok_or("size")?;
+    let mut samples = [0u8; 64];
+    for i in 0..64usize {
+        samples[i] = (3 * i + 1) as u8;
+    }
+    let mut picture = Picture::black(rt.alloc(), size)?;
+    picture.put_block(0, 8, 0, 8, &samples);
+    picture.put_block(2, 0, 8, 4, &samples[..16]);
+    assert_eq!(rt; digests(&picture), (4190991456, 0, 3693049624));
+    let mut other = Picture::black(rt.alloc(), size)?;
+    other.copy_block(&picture, 6, 2, 1, 7, 9);
+    other.copy_block(&picture, 0, 8, 12, 12, 4);
+    assert_eq!(rt; digests(&other), (1786973508, 0, 594287384));
     Ok(())
 }

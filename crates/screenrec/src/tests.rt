@@ -173,7 +173,7 @@ fn words_that_are_in_no_row(rt: HostRuntime) -> Result<(), Fail> {
 
 #[test]
 fn first_bad_lines(rt: HostRuntime) -> Result<(), Fail> {
-    let rows: [(&[u8], u32, Cause); 9] = [
+    let rows: [(&[u8], u32, Cause); 14] = [
         (b"fill 0 0 0 5 ffffff\n", 1, Cause::ZeroSize),
         (b"cut", 1, Cause::NoLineFeed),
         (b"cut\ncut \n", 2, Cause::WordCount),
@@ -183,6 +183,11 @@ fn first_bad_lines(rt: HostRuntime) -> Result<(), Fail> {
         (b"fill 0 0 1 1 FFFFFF\n", 1, Cause::BadColour),
         (b"blit 0 0 2 1 ff0000\n", 1, Cause::BadColour),
         (b"blit 0 0 65 64 0\n", 1, Cause::TooManyPixels),
+        (b"copy 0 0 1 1 0 0\n", 1, Cause::UnknownCommand),
+        (b"paint 2\ncopy 0 0 1 1 0\n", 2, Cause::WordCount),
+        (b"cut\npaint 2\n", 2, Cause::UnknownCommand),
+        (b"paint 2\npaint 2\n", 2, Cause::UnknownCommand),
+        (b"paint 2", 1, Cause::NoLineFeed),
     ];
     for (paint, line, cause) in rows {
         let status = refused(&rt, &["serial", "32x32", "0", "1", "o", "f"], paint)?;

@@ -2,10 +2,9 @@
 use Rattle.std.proofs.Common.{◌≡◌, refl, sym, ◌∙◌, ap, ℕ, Bool, true, false, Some, None, Option, List}
 use Rattle.std.specs.Prelude.{if◌then◌else◌}
 use Rattle.std.specs.Bool.{beq}
-use Rattle.h265_model.specs.declared.Place.TheVariants.{Terminate}
 use Rattle.h265_model.specs.declared.leaf.SliceKind.{SliceKind}
 use Rattle.h265_model.specs.Bits.{◌>>=◌ as and_then}
-use Rattle.h265_model.specs.Engine.{Engine, Reader, bin, give, refuse, terminate_read}
+use Rattle.h265_model.specs.Engine.{Engine, give, refuse, terminate_read}
 use Rattle.h265_model.specs.Plain.{Size}
 use Rattle.h265_model.specs.Motion.{Moving}
 use Rattle.h265_model.specs.Tree.{ReadUnit, ReadCtu, ctu_read}
@@ -18,7 +17,7 @@ read_of units contexts = record { units = units; contexts = contexts }
 abbrev flag_then : List ReadUnit → List ℕ → Bool → Bool × Engine → Option (ReadCtu × Engine)
 flag_then units contexts ends found = (if beq found.0 ends then give (read_of units contexts) else refuse) found.1
 
-abbrev units_then : Bool → List ReadUnit × Engine → Option (ReadCtu × Engine)
+abbrev pub units_then : Bool → List ReadUnit × Engine → Option (ReadCtu × Engine)
 units_then ends found = and_then (terminate_read found.1) (flag_then found.0 found.1.contexts ends)
 
 flagged_open : (kind : SliceKind) (size : Size) (before : List Moving) (ctu : ℕ) (ends : Bool) (e : Engine) → flagged_read kind size before ctu ends e ≡ and_then (ctu_read kind size before ctu e) (units_then ends)

@@ -1,3 +1,4 @@
 pub mod FlaggedReads
+pub mod RowReads
 pub mod Splits
 pub mod TreeReads

@@ -1,10 +1,10 @@
 -- Whether a block is split, read or inferred.
-use Rattle.std.proofs.Common.{◌≡◌, refl, sym, ◌∙◌, ap, subst, ℕ, zero, suc, ◌+◌, ◌-◌, ◌*◌, ◌/◌, ◌%◌, ◌^◌, ◌<◌, ◌≤◌, Bool, true, false, not, Some, None, Option, List, pow-suc, arith}
+use Rattle.std.proofs.Common.{◌≡◌, sym, ◌∙◌, ap, subst, ℕ, zero, suc, ◌+◌, ◌-◌, ◌*◌, ◌/◌, ◌%◌, ◌^◌, ◌<◌, ◌≤◌, Bool, true, false, not, Some, Option, List, pow-suc, arith}
 use Rattle.std.specs.Prelude.{if◌then◌else◌}
 use Rattle.std.proofs.lemmas.Bool.{and_parts, leb-true}
 use Rattle.h265_model.specs.declared.Place.TheVariants.{Context}
 use Rattle.h265_model.specs.declared.leaf.Leaf.{Leaf}
-use Rattle.h265_model.specs.Engine.{Engine, Reader, bin, give, context_read}
+use Rattle.h265_model.specs.Engine.{Engine, bin, give, context_read}
 use Rattle.h265_model.specs.Plain.{block_at, Size, coded}
 use Rattle.h265_model.specs.Predict.{is_inside}
 use Rattle.h265_model.specs.Tree.{is_whole, split_context}
@@ -35,11 +35,10 @@ split_deep size list (suc k) n x y e whole h q i =
 pub split_part : (size : Size) (list : List Leaf) (depth n x y : ℕ) (e : Engine) → 0 < depth → n ≡ 2 ^ (3 + depth) → is_whole size n x y ≡ false → split_read size list depth x y e ≡ Some (true, e)
 split_part size list depth n x y e h q i = split_deep size list depth n x y e false h q i
 
-pub split_flag : (size : Size) (list : List Leaf) (depth n x y context : ℕ) (r : Option Bool) (e d : Engine) → 0 < depth → n ≡ 2 ^ (3 + depth) → is_whole size n x y ≡ true → depth < 3 → context ≡ split_context list (block_at x y (5 - (2 - depth)))
+pub split_flag : (size : Size) (list : List Leaf) (depth n x y context : ℕ) (r : Option Bool) (e d : Engine) → 0 < depth → n ≡ 2 ^ (3 + depth) → is_whole size n x y ≡ true → depth < 3 → context ≡ split_context list (block_at x y (3 + depth))
     → Answers r (context_read context e) d → Answers r (split_read size list depth x y e) d
 split_flag size list depth n x y context r e d h q i small is answers =
-    let m : 5 - (2 - depth) ≡ 3 + depth = omega arith in
-    subst (λ (o : Option (Bool × Engine)). Answers r o d) (ap (λ (k : ℕ). context_read k e) (is ∙ ap (split_context list x y) m) ∙ sym (split_deep size list depth n x y e true h q i)) answers
+    subst (λ (o : Option (Bool × Engine)). Answers r o d) (ap (λ (k : ℕ). context_read k e) is ∙ sym (split_deep size list depth n x y e true h q i)) answers
 
 pub whole_eight : (size : Size) (depth x y : ℕ) → depth ≡ 0 → x % 2 ^ (3 + depth) ≡ 0 → y % 2 ^ (3 + depth) ≡ 0 → x < coded size.w → y < coded size.h → IsWhole size (3 + depth) x y
 whole_eight size depth x y h ex ey hx hy = subst (λ (n : ℕ). IsWhole size (3 + n) x y) (sym h) (go (subst (λ (n : ℕ). x % 2 ^ (3 + n) ≡ 0) h ex) (subst (λ (n : ℕ). y % 2 ^ (3 + n) ≡ 0) h ey))

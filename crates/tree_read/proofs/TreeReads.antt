@@ -1,5 +1,5 @@
 -- Blocks of a coding tree, read part by part.
-use Rattle.std.proofs.Common.{◌≡◌, refl, sym, ◌∙◌, ap, subst, ℕ, zero, suc, ◌+◌, ◌*◌, ◌/◌, ◌%◌, ◌^◌, ◌<◌, Bool, true, false, not, Some, None, Option, List, [], ◌∷◌, ◌++◌, map, append_assoc, append-nil, arith}
+use Rattle.std.proofs.Common.{◌≡◌, refl, sym, ◌∙◌, ap, subst, ℕ, zero, suc, ◌+◌, ◌*◌, ◌/◌, ◌%◌, ◌^◌, ◌<◌, Bool, true, false, not, Some, None, Option, List, [], ◌++◌, map, append_assoc, append-nil, arith}
 use Rattle.std.specs.Prelude.{if◌then◌else◌}
 use Rattle.std.proofs.lemmas.Bool.{and_parts, and_from, lt-ltb, ltb-true}
 use Rattle.h265_model.specs.declared.Place.TheVariants.{Context}
@@ -75,10 +75,10 @@ split_yes kind size depth k x y before e d q h i =
 
 -- ---- what is available to the next block
 
-covers_from : (size : Size) (units : List ReadUnit) (x y : ℕ) → HasAvailable size units x y → Covers size (map leaf_of units) (coding_order size x y)
+pub covers_from : (size : Size) (units : List ReadUnit) (x y : ℕ) → HasAvailable size units x y → Covers size (map leaf_of units) (coding_order size x y)
 covers_from size units x y has = record { each = λ px py within less. has.each px py (and_from _ _ within (lt-ltb _ _ less)) }
 
-available_from : (size : Size) (units : List ReadUnit) (x y n : ℕ) → n ≡ coding_order size x y → Covers size (map leaf_of units) n → HasAvailable size units x y
+pub available_from : (size : Size) (units : List ReadUnit) (x y n : ℕ) → n ≡ coding_order size x y → Covers size (map leaf_of units) n → HasAvailable size units x y
 available_from size units x y n e covers = record { each = λ px py ok. covers.each px py (and_parts _ _ ok).0 (subst (λ (m : ℕ). coding_order size px py < m) (sym e) (ltb-true _ _ (and_parts _ _ ok).1)) }
 
 passed : (kind : SliceKind) (size : Size) (k x y nx ny : ℕ) (before : List Moving) (e d : Engine) (units read : List ReadUnit) → k < 3 → IsAligned size (3 + k) x y → AreModes (leaves before)
@@ -100,7 +100,7 @@ halved zero x h e = let f : x % 16 ≡ 0 = e in record { first = omega arith; se
 halved (suc zero) x h e = let f : x % 32 ≡ 0 = e in record { first = omega arith; second = omega arith; same = omega arith }
 halved (suc (suc k)) x h e = absurd (omega arith)
 
-after_twice : (before : List Moving) (a b : List ReadUnit) → units_after (units_after before a) b ≡ units_after before (a ++ b)
+pub after_twice : (before : List Moving) (a b : List ReadUnit) → units_after (units_after before a) b ≡ units_after before (a ++ b)
 after_twice before a b = append_assoc before (map moving_of a) (map moving_of b) ∙ ap (λ (l : List Moving). before ++ l) (sym (maps_append moving_of a b))
 
 -- what a quarter does

@@ -8,7 +8,7 @@ ghost use Rattle.unit_read.specs.Units.{Reads, AreKept, AreTaken};
 
 use crate::split::{is_inside, read_split, side};
 use cabac_dec::Decoder;
-use h265_model::SliceKind;
+use h265_model::{CodingBlock, SliceKind};
 use leaf_sink::LeafSink;
 use motion_grid::MotionGrid;
 use pu_code::Grid;
@@ -47,7 +47,12 @@ pub(crate) fn read_block<S: LeafSink>(
         return Some(());
     }
     if !read_split(decoder, size, grid, depth, x, y)? {
-        return read_unit(decoder, kind, size, grid, motion, x, y, 3 + depth, sink);
+        let block = CodingBlock {
+            x,
+            y,
+            log2: 3 + depth,
+        };
+        return read_unit(decoder, kind, size, grid, motion, block, sink);
     }
     let half = side(depth - 1);
     read_block(decoder, kind, size, grid, motion, depth - 1, x, y, sink)?;

@@ -4,8 +4,13 @@
 mod block;
 mod ctu;
 mod flagged;
+mod row;
 mod split;
 
 pub use ctu::read_ctu;
 pub use flagged::read_flagged;
+pub use row::{read_row, read_segment_row};
 pub use unit_read::{Decoder, Grid, LeafSink, MotionGrid, Size, SliceKind};
+
+#[cfg(test)]
+mod tests;

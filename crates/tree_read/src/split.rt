@@ -9,6 +9,7 @@ ghost use Rattle.cabac_dec.specs.State.{IsOpen, Answers};
 ghost use Rattle.tree_read.specs.Blocks.{split_read, IsWhole};
 
 use cabac_dec::{Decoder, Place};
+use h265_model::CodingBlock;
 use pu_code::Grid;
 use px_plane::Size;
 
@@ -82,5 +83,10 @@ pub(crate) fn read_split(
     if !is_whole(size, n, x, y) {
         return Some(true);
     }
-    decoder.bin(Place::Context(grid.split_context(x, y, 2 - depth)))
+    let block = CodingBlock {
+        x,
+        y,
+        log2: 3 + depth,
+    };
+    decoder.bin(Place::Context(grid.split_context(block)))
 }

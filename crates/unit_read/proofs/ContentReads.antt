@@ -1,14 +1,8 @@
 -- Contents of units, read part by part.
-use Rattle.std.proofs.Common.{◌≡◌, refl, sym, ◌∙◌, ap, subst, ℕ, ◌+◌, Bool, true, false, Some, None, Option, List}
-use Rattle.std.specs.Prelude.{if◌then◌else◌}
-use Rattle.h265_model.specs.Bits.{◌>>=◌ as and_then}
-use Rattle.h265_model.specs.Engine.{Engine, terminate_read, samples}
-use Rattle.h265_model.specs.Motion.{Moving}
-use Rattle.h265_model.specs.Tree.{Content, Samples, thirds, pcm_read, intra_read, content_read}
+use Rattle.std.proofs.Common.{◌≡◌, sym, ◌∙◌, ap, ℕ, ◌+◌, Some, None, Option, List}
+use Rattle.h265_model.specs.Engine.{Engine, samples}
+use Rattle.h265_model.specs.Tree.{Content, Samples, thirds, pcm_read}
 use Rattle.residual_read.proofs.Steps.{then_some, then_none}
-use Rattle.unit_read.specs.Units.{Hands}
-use Rattle.unit_read.specs.declared.kept.Kept.{Kept}
-use Rattle.h265_model.specs.Plain.{Size}
 
 abbrev pcm_then : ℕ → List ℕ × Engine → Option (Content × Engine)
 pcm_then n found = Some (Samples (thirds n found.0), found.1)

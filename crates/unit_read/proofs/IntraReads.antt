@@ -11,6 +11,7 @@ use Rattle.h265_model.specs.Plain.{block_at}
 use Rattle.residual_read.proofs.Steps.{then_some, then_none}
 use Rattle.unit_read.specs.declared.intra.Flags.{Flags}
 use Rattle.unit_read.specs.Intra.{flags_read, planes_read, intra_of, GivesIntra}
+use Rattle.h265_model.specs.declared.block.CodingBlock.{CodingBlock}
 
 abbrev luma_then : Bool → Bool → Bool × Engine → Option (Flags × Engine)
 luma_then cb cr found = Some (record { cb = cb; cr = cr; luma = found.0 }, found.1)
@@ -184,6 +185,7 @@ intra_is before x y log2 e = go (mode_read (candidates_at (leaves before) x y) e
     go (Some (mode, d)) = joined_flags log2 mode d
 
 pub as_unit : (result : Option ℕ) (first second third : List ℤ) (list : List ℕ) (log2 : ℕ) (e d : Engine) → GivesIntra result first second third (intra_of list log2 e) d
-    → (before : List Moving) (x y : ℕ) → list ≡ candidates_at (leaves before) x y → GivesIntra result first second third (intra_read before (block_at x y log2) e) d
-as_unit result first second third list log2 e d given before x y is =
-    subst (λ (r : Option (Content × Engine)). GivesIntra result first second third r d) (ap (λ (l : List ℕ). intra_of l log2 e) is ∙ sym (intra_is before x y log2 e)) given
+    → (before : List Moving) (block : CodingBlock) → block.log2 ≡ log2 → list ≡ candidates_at (leaves before) block.x block.y → GivesIntra result first second third (intra_read before block e) d
+as_unit result first second third list log2 e d given before block same is =
+    subst (λ (r : Option (Content × Engine)). GivesIntra result first second third r d)
+    (ap (λ (n : ℕ). intra_of list n e) (sym same) ∙ (ap (λ (l : List ℕ). intra_of l block.log2 e) is ∙ sym (intra_is before block.x block.y block.log2 e))) given

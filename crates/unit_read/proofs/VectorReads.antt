@@ -1,10 +1,9 @@
 -- Vectors, read part by part.
-use Rattle.std.proofs.Common.{◌≡◌, refl, sym, ◌∙◌, ap, subst, ℕ, Bool, true, false, Some, None, Option}
+use Rattle.std.proofs.Common.{◌≡◌, refl, sym, ◌∙◌, ap, ℕ, Bool, Some, None, Option}
 use Rattle.std.specs.Prelude.{ℤ, pos, ◌+ℤ◌, ◌*ℤ◌}
 use Rattle.h265_model.specs.declared.moves.Vector.{Vector}
 use Rattle.h265_model.specs.Bits.{◌>>=◌ as and_then}
 use Rattle.h265_model.specs.Engine.{Engine, context_read}
-use Rattle.h265_model.specs.Motion as motion
 use Rattle.h265_model.specs.Motion.{vector, greater1_if, part_read, difference_read, vector_read, whole_part, whole_vector, predictor, low_16, signed_16, quarter, or_refuse}
 use Rattle.cabac_dec.specs.State.{Answers}
 use Rattle.residual_read.proofs.Steps.{then_some, then_none}

@@ -1,6 +1,7 @@
 -- The levels of an intra unit, by its candidates for a mode.
 use Rattle.std.specs.Prelude.{◌≡◌, ℕ, false, List, [], ◌∷◌, ℤ, Option, Some, None}
 use Rattle.h265_model.specs.declared.Place.TheVariants.{Context}
+use Rattle.h265_model.specs.SyntaxElements.{intra_chroma_pred_mode, cbf_cb, cbf_cr, cbf_luma}
 use Rattle.h265_model.specs.Engine.{Engine, Reader, ◌>>=◌, give, bin}
 use Rattle.h265_model.specs.Modes.{mode_read}
 use Rattle.h265_model.specs.Tree.{component_read, expect, Content, Levels}
@@ -8,10 +9,10 @@ use Rattle.unit_read.specs.declared.intra.Flags.{Flags}
 
 -- intra_chroma_pred_mode, which chooses the luma mode, and the flags
 unfoldable pub flags_read : Reader Flags
-flags_read = expect (Context 10) false (do
-  cb ← bin (Context 12)
-  cr ← bin (Context 12)
-  luma ← bin (Context 11)
+flags_read = expect (Context intra_chroma_pred_mode) false (do
+  cb ← bin (Context cbf_cb)
+  cr ← bin (Context cbf_cr)
+  luma ← bin (Context cbf_luma)
   give (record { cb = cb; cr = cr; luma = luma }))
 
 -- the levels of the three components

@@ -3,8 +3,8 @@ use Rattle.std.specs.Prelude.{◌≡◌, ℕ, ◌*◌, ◌^◌, ◌==◌, Bool, 
 use Rattle.h265_model.specs.declared.Place.TheVariants.{Context}
 use Rattle.h265_model.specs.declared.leaf.SliceKind.{SliceKind}
 use Rattle.h265_model.specs.declared.moves.Vector.{Vector}
-use Rattle.h265_model.specs.Plain.{block_at, Size}
-use Rattle.h265_model.specs.SyntaxElements.{cu_transquant_bypass_flag, part_mode}
+use Rattle.h265_model.specs.Plain.{Size}
+use Rattle.h265_model.specs.SyntaxElements.{part_mode}
 use Rattle.h265_model.specs.Engine.{Engine, Reader, ◌>>=◌, give, refuse}
 use Rattle.h265_model.specs.Motion.{Moving, leaves, merge}
 use Rattle.h265_model.specs.Tree.{AreModes, expect, skip_read, Content, Copied, Moved, ReadUnit, kind_of, vector_of, units_after, coded_read, is_in_picture}
@@ -14,6 +14,7 @@ use Rattle.pu_code.specs.Cells as modes
 use Rattle.motion_grid.specs.Cells.{HasMotion}
 use Rattle.motion_grid.specs.Cells as motions
 use Rattle.unit_read.specs.declared.kept.Kept.{Kept}
+use Rattle.h265_model.specs.declared.block.CodingBlock.{CodingBlock}
 
 -- ---- contents
 
@@ -22,17 +23,17 @@ abbrev pub kept_of : Content → Kept
 kept_of content = record { kind = kind_of content; vector = vector_of content }
 
 -- a copy needs its source in the coded picture
-abbrev pub placed : Size → ℕ → ℕ → ℕ → Content → Reader Content
-placed size x y log2 content = if is_in_picture size (block_at x y log2) (vector_of content) then give content else refuse
+abbrev pub placed : Size → CodingBlock → Content → Reader Content
+placed size block content = if is_in_picture size block (vector_of content) then give content else refuse
 
-abbrev pub placed_after : Reader Content → Size → ℕ → ℕ → ℕ → Reader Content
-placed_after read size x y log2 = read >>= placed size x y log2
+abbrev pub placed_after : Reader Content → Size → CodingBlock → Reader Content
+placed_after read size block = read >>= placed size block
 
 -- what follows cu_transquant_bypass_flag
-unfoldable pub rest_read : SliceKind → Size → List Moving → ℕ → ℕ → ℕ → Reader Content
-rest_read kind size before x y log2 = do
-  skipped ← skip_read kind (leaves before) x y
-  if skipped then placed size x y log2 (Copied (merge before (block_at x y log2))) else placed_after (coded_read kind before (block_at x y log2)) size x y log2
+unfoldable pub rest_read : SliceKind → Size → List Moving → CodingBlock → Reader Content
+rest_read kind size before block = do
+  skipped ← skip_read kind (leaves before) block.x block.y
+  if skipped then placed size block (Copied (merge before block)) else placed_after (coded_read kind before block) size block
 
 -- part_mode, where a unit has one of its own
 abbrev pub part_then : ℕ → Reader Content → Reader Content
@@ -54,8 +55,8 @@ Hands None read new Holds = read ≡ None
 Hands (Some kept) read new Holds = (content : Content) × (kept ≡ kept_of content) × (read ≡ Some (content, new)) × Holds content
 
 -- what stood for lists of units now stands for them with the unit, if all that is available to it was taken
-abbrev pub Takes : (List ReadUnit → Type 0) → (List ReadUnit → Type 0) → Size → ℕ → ℕ → ℕ → Content → Type 0
-Takes stood stands size x y log2 content = (units : List ReadUnit) → stood units → HasAvailable size units x y → stands (units ++ unit x y log2 content ∷ [])
+abbrev pub Takes : (List ReadUnit → Type 0) → (List ReadUnit → Type 0) → Size → CodingBlock → Content → Type 0
+Takes stood stands size block content = (units : List ReadUnit) → stood units → HasAvailable size units block.x block.y → stands (units ++ unit block content ∷ [])
 
 -- ---- units
 

@@ -1,6 +1,6 @@
 //! Units that aren't copied: their samples, or their mode and levels.
 ghost use Rattle.std.specs.Prelude.{◌≡◌, ◌<◌, ◌≤◌, ◌+◌, ◌*◌, ◌%◌, ◌^◌, List, length, None, IfSome};
-ghost use Rattle.h265_model.specs.Plain.{block_at, coded};
+ghost use Rattle.h265_model.specs.Plain.{coded};
 ghost use Rattle.h265_model.specs.Motion.{Moving, leaves};
 ghost use Rattle.h265_model.specs.Tree.{IsMode, pcm_read, intra_read, content_read, own_read};
 ghost use Rattle.pu_code.specs.Cells.{StandsFor};
@@ -12,6 +12,7 @@ use crate::intra::read_intra;
 use crate::kept::Kept;
 use bin_items::{Block, Kind};
 use cabac_dec::{Decoder, Place};
+use h265_model::CodingBlock;
 use leaf_sink::{LeafSink, Residuals};
 use pu_code::Grid;
 use px_plane::Size;
@@ -34,30 +35,28 @@ fn sample_count(log2: u32) -> usize
 fn read_samples<S: LeafSink>(
     decoder: &mut Decoder,
     size: Size,
-    x: u32,
-    y: u32,
-    log2: u32,
+    block: CodingBlock,
     sink: &mut S,
 ) -> Option<Kept>
     requires ended { IsEnded decoder.old }
     requires size { (S.last sink.old).size ≡ size }
-    requires low { 3 ≤ log2 }
-    requires high { log2 ≤ 5 }
-    requires column { x % 2 ^ log2 ≡ 0 }
-    requires row { y % 2 ^ log2 ≡ 0 }
-    requires across { x + 2 ^ log2 ≤ coded size.w }
-    requires down { y + 2 ^ log2 ≤ coded size.h }
-    ensures value { Hands result (pcm_read (2 ^ log2 * 2 ^ log2) decoder.old) decoder.new (Takes (S.stands_for sink.old) (S.stands_for sink.new) size x y log2) }
+    requires low { 3 ≤ block.log2 }
+    requires high { block.log2 ≤ 5 }
+    requires column { block.x % 2 ^ block.log2 ≡ 0 }
+    requires row { block.y % 2 ^ block.log2 ≡ 0 }
+    requires across { block.x + 2 ^ block.log2 ≤ coded size.w }
+    requires down { block.y + 2 ^ block.log2 ≤ coded size.h }
+    ensures value { Hands result (pcm_read (2 ^ block.log2 * 2 ^ block.log2) decoder.old) decoder.new (Takes (S.stands_for sink.old) (S.stands_for sink.new) size block) }
     ensures open { IfSome result (λ _. IsOpen decoder.new) }
     ensures still { IfSome result (λ kept. kept.vector ≡ None) }
     ensures mode { IfSome result (λ kept. IsMode kept.kind) }
     ensures last { S.last sink.new ≡ S.last sink.old }
 {
     let mut planes = [0; 3072];
-    let count = sample_count(log2);
+    let count = sample_count(block.log2);
     let samples = &mut planes[..count];
     decoder.pcm(samples)?;
-    sink.samples(x, y, log2, samples);
+    sink.samples(block, samples);
     Some(Kept {
         kind: Kind::Pcm,
         vector: None,
@@ -78,38 +77,36 @@ fn read_levels<S: LeafSink>(
     decoder: &mut Decoder,
     size: Size,
     grid: &Grid,
-    x: u32,
-    y: u32,
-    log2: u32,
+    block: CodingBlock,
     sink: &mut S,
 ) -> Option<Kept>
     requires open { IsOpen decoder.old }
     requires grid { grid.now.size ≡ size }
     requires size { (S.last sink.old).size ≡ size }
-    requires low { 3 ≤ log2 }
-    requires high { log2 ≤ 5 }
-    requires column { x % 2 ^ log2 ≡ 0 }
-    requires row { y % 2 ^ log2 ≡ 0 }
-    requires across { x + 2 ^ log2 ≤ coded size.w }
-    requires down { y + 2 ^ log2 ≤ coded size.h }
+    requires low { 3 ≤ block.log2 }
+    requires high { block.log2 ≤ 5 }
+    requires column { block.x % 2 ^ block.log2 ≡ 0 }
+    requires row { block.y % 2 ^ block.log2 ≡ 0 }
+    requires across { block.x + 2 ^ block.log2 ≤ coded size.w }
+    requires down { block.y + 2 ^ block.log2 ≤ coded size.h }
     ensures value { (before : List Moving) → StandsFor grid.now (leaves before)
-        → Hands result (intra_read before (block_at x y log2) decoder.old) decoder.new (Takes (S.stands_for sink.old) (S.stands_for sink.new) size x y log2) }
+        → Hands result (intra_read before block decoder.old) decoder.new (Takes (S.stands_for sink.old) (S.stands_for sink.new) size block) }
     ensures open { IfSome result (λ _. IsOpen decoder.new) }
     ensures still { IfSome result (λ kept. kept.vector ≡ None) }
     ensures mode { IfSome result (λ kept. IsMode kept.kind) }
     ensures last { S.last sink.new ≡ S.last sink.old }
 {
-    let candidates = grid.candidates(x, y);
-    let mut luma = Block::zero(log2);
-    let mut cb = Block::zero(log2);
-    let mut cr = Block::zero(log2);
+    let candidates = grid.candidates(block.x, block.y);
+    let mut luma = Block::zero(block.log2);
+    let mut cb = Block::zero(block.log2);
+    let mut cr = Block::zero(block.log2);
     let mode = read_intra(decoder, &candidates, &mut luma, &mut cb, &mut cr)?;
     let residuals = Residuals {
         luma: Some(rows(&luma)),
         cb: Some(rows(&cb)),
         cr: Some(rows(&cr)),
     };
-    sink.levels(x, y, log2, mode, residuals);
+    sink.levels(block, mode, residuals);
     Some(Kept {
         kind: Kind::Intra(mode),
         vector: None,
@@ -121,31 +118,29 @@ fn read_content<S: LeafSink>(
     decoder: &mut Decoder,
     size: Size,
     grid: &Grid,
-    x: u32,
-    y: u32,
-    log2: u32,
+    block: CodingBlock,
     sink: &mut S,
 ) -> Option<Kept>
     requires open { IsOpen decoder.old }
     requires grid { grid.now.size ≡ size }
     requires size { (S.last sink.old).size ≡ size }
-    requires low { 3 ≤ log2 }
-    requires high { log2 ≤ 5 }
-    requires column { x % 2 ^ log2 ≡ 0 }
-    requires row { y % 2 ^ log2 ≡ 0 }
-    requires across { x + 2 ^ log2 ≤ coded size.w }
-    requires down { y + 2 ^ log2 ≤ coded size.h }
+    requires low { 3 ≤ block.log2 }
+    requires high { block.log2 ≤ 5 }
+    requires column { block.x % 2 ^ block.log2 ≡ 0 }
+    requires row { block.y % 2 ^ block.log2 ≡ 0 }
+    requires across { block.x + 2 ^ block.log2 ≤ coded size.w }
+    requires down { block.y + 2 ^ block.log2 ≤ coded size.h }
     ensures value { (before : List Moving) → StandsFor grid.now (leaves before)
-        → Hands result (content_read before (block_at x y log2) decoder.old) decoder.new (Takes (S.stands_for sink.old) (S.stands_for sink.new) size x y log2) }
+        → Hands result (content_read before block decoder.old) decoder.new (Takes (S.stands_for sink.old) (S.stands_for sink.new) size block) }
     ensures open { IfSome result (λ _. IsOpen decoder.new) }
     ensures still { IfSome result (λ kept. kept.vector ≡ None) }
     ensures mode { IfSome result (λ kept. IsMode kept.kind) }
     ensures last { S.last sink.new ≡ S.last sink.old }
 {
     if decoder.bin(Place::Terminate)? {
-        read_samples(decoder, size, x, y, log2, sink)
+        read_samples(decoder, size, block, sink)
     } else {
-        read_levels(decoder, size, grid, x, y, log2, sink)
+        read_levels(decoder, size, grid, block, sink)
     }
 }
 
@@ -154,27 +149,25 @@ pub(crate) fn read_own<S: LeafSink>(
     decoder: &mut Decoder,
     size: Size,
     grid: &Grid,
-    x: u32,
-    y: u32,
-    log2: u32,
+    block: CodingBlock,
     sink: &mut S,
 ) -> Option<Kept>
     requires open { IsOpen decoder.old }
     requires grid { grid.now.size ≡ size }
     requires size { (S.last sink.old).size ≡ size }
-    requires low { 3 ≤ log2 }
-    requires high { log2 ≤ 5 }
-    requires column { x % 2 ^ log2 ≡ 0 }
-    requires row { y % 2 ^ log2 ≡ 0 }
-    requires across { x + 2 ^ log2 ≤ coded size.w }
-    requires down { y + 2 ^ log2 ≤ coded size.h }
+    requires low { 3 ≤ block.log2 }
+    requires high { block.log2 ≤ 5 }
+    requires column { block.x % 2 ^ block.log2 ≡ 0 }
+    requires row { block.y % 2 ^ block.log2 ≡ 0 }
+    requires across { block.x + 2 ^ block.log2 ≤ coded size.w }
+    requires down { block.y + 2 ^ block.log2 ≤ coded size.h }
     ensures value { (before : List Moving) → StandsFor grid.now (leaves before)
-        → Hands result (own_read before (block_at x y log2) decoder.old) decoder.new (Takes (S.stands_for sink.old) (S.stands_for sink.new) size x y log2) }
+        → Hands result (own_read before block decoder.old) decoder.new (Takes (S.stands_for sink.old) (S.stands_for sink.new) size block) }
     ensures open { IfSome result (λ _. IsOpen decoder.new) }
     ensures still { IfSome result (λ kept. kept.vector ≡ None) }
     ensures mode { IfSome result (λ kept. IsMode kept.kind) }
     ensures last { S.last sink.new ≡ S.last sink.old }
 {
-    read_part_mode(decoder, log2)?;
-    read_content(decoder, size, grid, x, y, log2, sink)
+    read_part_mode(decoder, block.log2)?;
+    read_content(decoder, size, grid, block, sink)
 }

@@ -1,6 +1,6 @@
 //! Units that are copied, by the merge vector or by their own.
 ghost use Rattle.std.specs.Prelude.{◌≡◌, ◌<◌, ◌≤◌, ◌+◌, ◌%◌, ◌^◌, ◌&&◌, List, IfSome};
-ghost use Rattle.h265_model.specs.Plain.{block_at, coded};
+ghost use Rattle.h265_model.specs.Plain.{coded};
 ghost use Rattle.h265_model.specs.Engine.{Engine};
 ghost use Rattle.h265_model.specs.Motion as motion;
 ghost use Rattle.h265_model.specs.Motion.{Moving};
@@ -14,7 +14,8 @@ use crate::kept::Kept;
 use crate::vector::read_vector;
 use bin_items::Kind;
 use cabac_dec::Decoder;
-use h265_model::Vector;
+use h265_model::syntax_elements::{MERGE_FLAG, PART_MODE, RQT_ROOT_CBF};
+use h265_model::{CodingBlock, Vector};
 use leaf_sink::LeafSink;
 use motion_grid::MotionGrid;
 use px_plane::Size;
@@ -65,42 +66,43 @@ fn both(first: bool, second: bool) -> bool
 }
 
 // Whether the block that a vector names lies in the coded picture.
-fn has_source(size: Size, x: u32, y: u32, log2: u32, vector: Vector) -> bool
-    requires low { 3 ≤ log2 }
-    requires high { log2 ≤ 5 }
-    requires across { x + 2 ^ log2 ≤ coded size.w }
-    requires down { y + 2 ^ log2 ≤ coded size.h }
-    ensures { result ≡ motion.has_source size (block_at x y log2) vector }
+fn has_source(size: Size, block: CodingBlock, vector: Vector) -> bool
+    requires low { 3 ≤ block.log2 }
+    requires high { block.log2 ≤ 5 }
+    requires across { block.x + 2 ^ block.log2 ≤ coded size.w }
+    requires down { block.y + 2 ^ block.log2 ≤ coded size.h }
+    ensures { result ≡ motion.has_source size block vector }
 {
-    let n = side(log2);
+    let n = side(block.log2);
     let (wide, tall) = (coded_side(size.w()), coded_side(size.h()));
-    both(reaches(wide, n, x, vector.x), reaches(tall, n, y, vector.y))
+    both(
+        reaches(wide, n, block.x, vector.x),
+        reaches(tall, n, block.y, vector.y),
+    )
 }
 
 /// Hands a copy by the merge vector to the sink, where its source lies in the picture.
 pub(crate) fn take_copied<S: LeafSink>(
     size: Size,
-    x: u32,
-    y: u32,
-    log2: u32,
+    block: CodingBlock,
     vector: Vector,
     sink: &mut S,
 ) -> Option<Kept>
     requires size { (S.last sink.old).size ≡ size }
-    requires low { 3 ≤ log2 }
-    requires high { log2 ≤ 5 }
-    requires column { x % 2 ^ log2 ≡ 0 }
-    requires row { y % 2 ^ log2 ≡ 0 }
-    requires across { x + 2 ^ log2 ≤ coded size.w }
-    requires down { y + 2 ^ log2 ≤ coded size.h }
-    ensures value { (e : Engine) → Hands result (placed size x y log2 (Copied vector) e) e (Takes (S.stands_for sink.old) (S.stands_for sink.new) size x y log2) }
+    requires low { 3 ≤ block.log2 }
+    requires high { block.log2 ≤ 5 }
+    requires column { block.x % 2 ^ block.log2 ≡ 0 }
+    requires row { block.y % 2 ^ block.log2 ≡ 0 }
+    requires across { block.x + 2 ^ block.log2 ≤ coded size.w }
+    requires down { block.y + 2 ^ block.log2 ≤ coded size.h }
+    ensures value { (e : Engine) → Hands result (placed size block (Copied vector) e) e (Takes (S.stands_for sink.old) (S.stands_for sink.new) size block) }
     ensures mode { IfSome result (λ kept. IsMode kept.kind) }
     ensures last { S.last sink.new ≡ S.last sink.old }
 {
-    if !has_source(size, x, y, log2, vector) {
+    if !has_source(size, block, vector) {
         return None;
     }
-    sink.copied(x, y, log2, vector);
+    sink.copied(block, vector);
     Some(Kept {
         kind: Kind::Skip,
         vector: Some(vector),
@@ -110,27 +112,25 @@ pub(crate) fn take_copied<S: LeafSink>(
 // Hands a copy by a vector of its own to the sink, where its source lies in the picture.
 fn take_moved<S: LeafSink>(
     size: Size,
-    x: u32,
-    y: u32,
-    log2: u32,
+    block: CodingBlock,
     vector: Vector,
     sink: &mut S,
 ) -> Option<Kept>
     requires size { (S.last sink.old).size ≡ size }
-    requires low { 3 ≤ log2 }
-    requires high { log2 ≤ 5 }
-    requires column { x % 2 ^ log2 ≡ 0 }
-    requires row { y % 2 ^ log2 ≡ 0 }
-    requires across { x + 2 ^ log2 ≤ coded size.w }
-    requires down { y + 2 ^ log2 ≤ coded size.h }
-    ensures value { (e : Engine) → Hands result (placed size x y log2 (Moved vector) e) e (Takes (S.stands_for sink.old) (S.stands_for sink.new) size x y log2) }
+    requires low { 3 ≤ block.log2 }
+    requires high { block.log2 ≤ 5 }
+    requires column { block.x % 2 ^ block.log2 ≡ 0 }
+    requires row { block.y % 2 ^ block.log2 ≡ 0 }
+    requires across { block.x + 2 ^ block.log2 ≤ coded size.w }
+    requires down { block.y + 2 ^ block.log2 ≤ coded size.h }
+    ensures value { (e : Engine) → Hands result (placed size block (Moved vector) e) e (Takes (S.stands_for sink.old) (S.stands_for sink.new) size block) }
     ensures mode { IfSome result (λ kept. IsMode kept.kind) }
     ensures last { S.last sink.new ≡ S.last sink.old }
 {
-    if !has_source(size, x, y, log2, vector) {
+    if !has_source(size, block, vector) {
         return None;
     }
-    sink.moved(x, y, log2, vector);
+    sink.moved(block, vector);
     Some(Kept {
         kind: Kind::Pcm,
         vector: Some(vector),
@@ -138,25 +138,19 @@ fn take_moved<S: LeafSink>(
 }
 
 // Reads the vector of a moved unit, from part_mode to rqt_root_cbf.
-fn read_move(
-    decoder: &mut Decoder,
-    motion: &MotionGrid,
-    x: u32,
-    y: u32,
-    log2: u32,
-) -> Option<Vector>
+fn read_move(decoder: &mut Decoder, motion: &MotionGrid, block: CodingBlock) -> Option<Vector>
     requires open { IsOpen decoder.old }
-    requires low { 3 ≤ log2 }
-    requires high { log2 ≤ 5 }
-    requires across { x < coded motion.now.size.w }
-    requires down { y < coded motion.now.size.h }
-    ensures value { (before : List Moving) → HasMotion motion.now before → Moves result (move_read before (block_at x y log2) decoder.old) decoder.new }
+    requires low { 3 ≤ block.log2 }
+    requires high { block.log2 ≤ 5 }
+    requires across { block.x < coded motion.now.size.w }
+    requires down { block.y < coded motion.now.size.h }
+    ensures value { (before : List Moving) → HasMotion motion.now before → Moves result (move_read before block decoder.old) decoder.new }
     ensures open { IfSome result (λ _. IsOpen decoder.new) }
 {
-    expect(decoder, 8, true)?;
-    expect(decoder, 125, false)?;
-    let vector = read_vector(decoder, motion.predictors(x, y, log2))?;
-    expect(decoder, 129, false)?;
+    expect(decoder, PART_MODE, true)?;
+    expect(decoder, MERGE_FLAG, false)?;
+    let vector = read_vector(decoder, motion.predictors(block))?;
+    expect(decoder, RQT_ROOT_CBF, false)?;
     Some(vector)
 }
 
@@ -165,26 +159,24 @@ pub(crate) fn read_moved<S: LeafSink>(
     decoder: &mut Decoder,
     size: Size,
     motion: &MotionGrid,
-    x: u32,
-    y: u32,
-    log2: u32,
+    block: CodingBlock,
     sink: &mut S,
 ) -> Option<Kept>
     requires open { IsOpen decoder.old }
     requires grid { motion.now.size ≡ size }
     requires size { (S.last sink.old).size ≡ size }
-    requires low { 3 ≤ log2 }
-    requires high { log2 ≤ 5 }
-    requires column { x % 2 ^ log2 ≡ 0 }
-    requires row { y % 2 ^ log2 ≡ 0 }
-    requires across { x + 2 ^ log2 ≤ coded size.w }
-    requires down { y + 2 ^ log2 ≤ coded size.h }
+    requires low { 3 ≤ block.log2 }
+    requires high { block.log2 ≤ 5 }
+    requires column { block.x % 2 ^ block.log2 ≡ 0 }
+    requires row { block.y % 2 ^ block.log2 ≡ 0 }
+    requires across { block.x + 2 ^ block.log2 ≤ coded size.w }
+    requires down { block.y + 2 ^ block.log2 ≤ coded size.h }
     ensures value { (before : List Moving) → HasMotion motion.now before
-        → Hands result (placed_after (move_read before (block_at x y log2)) size x y log2 decoder.old) decoder.new (Takes (S.stands_for sink.old) (S.stands_for sink.new) size x y log2) }
+        → Hands result (placed_after (move_read before block) size block decoder.old) decoder.new (Takes (S.stands_for sink.old) (S.stands_for sink.new) size block) }
     ensures open { IfSome result (λ _. IsOpen decoder.new) }
     ensures mode { IfSome result (λ kept. IsMode kept.kind) }
     ensures last { S.last sink.new ≡ S.last sink.old }
 {
-    let vector = read_move(decoder, motion, x, y, log2)?;
-    take_moved(size, x, y, log2, vector, sink)
+    let vector = read_move(decoder, motion, block)?;
+    take_moved(size, block, vector, sink)
 }

@@ -12,6 +12,7 @@ ghost use Rattle.unit_read.specs.Units.{part_then, Leads};
 
 use cabac_dec::{Decoder, Place};
 use h265_model::SliceKind;
+use h265_model::syntax_elements::PART_MODE;
 use pu_code::Grid;
 
 /// Reads a bin under a context, which has to have this value.
@@ -37,7 +38,7 @@ pub(crate) fn read_part_mode(decoder: &mut Decoder, log2: u32) -> Option<()>
     if log2 != 3 {
         return Some(());
     }
-    expect(decoder, 8, true)
+    expect(decoder, PART_MODE, true)
 }
 
 /// Reads cu_skip_flag, which P slices have.

@@ -3,7 +3,7 @@ ghost use Rattle.std.specs.Prelude.{◌≡◌, ◌<◌, ℕ, List, IfSome};
 ghost use Rattle.h265_model.specs.Modes.{AreThree};
 ghost use Rattle.h265_model.specs.Motion.{Moving, leaves};
 ghost use Rattle.h265_model.specs.Tree.{intra_read, candidates_at};
-ghost use Rattle.h265_model.specs.Plain.{block_at};
+ghost use Rattle.h265_model.specs.declared.block.CodingBlock.{CodingBlock};
 ghost use Rattle.cabac_dec.specs.State.{IsOpen, Answers};
 ghost use Rattle.unit_read.specs.Intra.{flags_read, planes_read, intra_of, GivesThree, GivesIntra};
 
@@ -12,6 +12,7 @@ use crate::mode::read_mode;
 use arrayvec::ArrayVec;
 use bin_items::Block;
 use cabac_dec::{Decoder, Place};
+use h265_model::syntax_elements::{CBF_CB, CBF_CR, CBF_LUMA, INTRA_CHROMA_PRED_MODE};
 
 /// Which components have levels other than 0: cbf_cb, cbf_cr and cbf_luma.
 #[derive(Clone, Copy)]
@@ -27,12 +28,12 @@ fn read_flags(decoder: &mut Decoder) -> Option<Flags>
     ensures value { Answers result (flags_read decoder.old) decoder.new }
     ensures open { IfSome result (λ _. IsOpen decoder.new) }
 {
-    if decoder.bin(Place::Context(10))? {
+    if decoder.bin(Place::Context(INTRA_CHROMA_PRED_MODE))? {
         return None;
     }
-    let cb = decoder.bin(Place::Context(12))?;
-    let cr = decoder.bin(Place::Context(12))?;
-    let luma = decoder.bin(Place::Context(11))?;
+    let cb = decoder.bin(Place::Context(CBF_CB))?;
+    let cr = decoder.bin(Place::Context(CBF_CR))?;
+    let luma = decoder.bin(Place::Context(CBF_LUMA))?;
     Some(Flags { cb, cr, luma })
 }
 
@@ -74,7 +75,8 @@ pub(crate) fn read_intra(
     requires second { second.old.log2 ≡ first.old.log2 }
     requires third { third.old.log2 ≡ first.old.log2 }
     ensures value { GivesIntra result first.new.levels second.new.levels third.new.levels (intra_of candidates.now.items first.old.log2 decoder.old) decoder.new }
-    ensures unit { (before : List Moving) (x y : ℕ) → candidates.now.items ≡ candidates_at (leaves before) x y → GivesIntra result first.new.levels second.new.levels third.new.levels (intra_read before (block_at x y first.old.log2) decoder.old) decoder.new }
+    ensures unit { (before : List Moving) (block : CodingBlock) → block.log2 ≡ first.old.log2 → candidates.now.items ≡ candidates_at (leaves before) block.x block.y
+        → GivesIntra result first.new.levels second.new.levels third.new.levels (intra_read before block decoder.old) decoder.new }
     ensures open { IfSome result (λ _. IsOpen decoder.new) }
     ensures mode { IfSome result (λ mode. mode < 35) }
     ensures first { first.new.log2 ≡ first.old.log2 }

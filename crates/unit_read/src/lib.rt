@@ -18,3 +18,6 @@ pub use motion_grid::MotionGrid;
 pub use pu_code::Grid;
 pub use px_plane::Size;
 pub use unit::read_unit;
+
+#[cfg(test)]
+mod tests;

@@ -8,6 +8,7 @@ ghost use Rattle.cabac_dec.specs.State.{IsOpen, Answers};
 
 use arrayvec::ArrayVec;
 use cabac_dec::{Decoder, Place};
+use h265_model::syntax_elements::PREV_INTRA_LUMA_PRED_FLAG;
 
 // Reads mpm_idx: ones, at most two, and the zero after fewer.
 fn read_index(decoder: &mut Decoder) -> Option<u32>
@@ -60,7 +61,7 @@ pub(crate) fn read_mode(decoder: &mut Decoder, candidates: &ArrayVec<u32, 3>) ->
     ensures open { IfSome result (λ _. IsOpen decoder.new) }
     ensures below { IfSome result (λ mode. mode < 35) }
 {
-    if decoder.bin(Place::Context(9))? {
+    if decoder.bin(Place::Context(PREV_INTRA_LUMA_PRED_FLAG))? {
         let index = read_index(decoder)?;
         return Some(candidates[index as usize]);
     }

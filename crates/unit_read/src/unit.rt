@@ -1,7 +1,7 @@
 //! Coding units.
 ghost use Rattle.std.specs.Prelude.{◌≡◌, ◌<◌, ◌≤◌, ◌+◌, ◌%◌, ◌^◌, List, IfSome};
 ghost use Rattle.h265_model.specs.declared.leaf.SliceKind.TheVariants.{P};
-ghost use Rattle.h265_model.specs.Plain.{block_at, coded};
+ghost use Rattle.h265_model.specs.Plain.{coded};
 ghost use Rattle.h265_model.specs.Motion.{Moving, leaves};
 ghost use Rattle.h265_model.specs.Tree.{IsMode, coded_read, coding_unit_read};
 ghost use Rattle.pu_code.specs.Cells.{StandsFor};
@@ -15,7 +15,8 @@ use crate::flags::{expect, read_skip_flag};
 use crate::kept::Kept;
 use bin_items::Leaf;
 use cabac_dec::{Decoder, Place};
-use h265_model::SliceKind;
+use h265_model::syntax_elements::{CU_TRANSQUANT_BYPASS_FLAG, PRED_MODE_FLAG};
+use h265_model::{CodingBlock, SliceKind};
 use leaf_sink::LeafSink;
 use motion_grid::MotionGrid;
 use pu_code::Grid;
@@ -27,31 +28,29 @@ fn read_inter<S: LeafSink>(
     size: Size,
     grid: &Grid,
     motion: &MotionGrid,
-    x: u32,
-    y: u32,
-    log2: u32,
+    block: CodingBlock,
     sink: &mut S,
 ) -> Option<Kept>
     requires open { IsOpen decoder.old }
     requires grid { grid.now.size ≡ size }
     requires motion { motion.now.size ≡ size }
     requires size { (S.last sink.old).size ≡ size }
-    requires low { 3 ≤ log2 }
-    requires high { log2 ≤ 5 }
-    requires column { x % 2 ^ log2 ≡ 0 }
-    requires row { y % 2 ^ log2 ≡ 0 }
-    requires across { x + 2 ^ log2 ≤ coded size.w }
-    requires down { y + 2 ^ log2 ≤ coded size.h }
+    requires low { 3 ≤ block.log2 }
+    requires high { block.log2 ≤ 5 }
+    requires column { block.x % 2 ^ block.log2 ≡ 0 }
+    requires row { block.y % 2 ^ block.log2 ≡ 0 }
+    requires across { block.x + 2 ^ block.log2 ≤ coded size.w }
+    requires down { block.y + 2 ^ block.log2 ≤ coded size.h }
     ensures value { (before : List Moving) → StandsFor grid.now (leaves before) → HasMotion motion.now before
-        → Hands result (placed_after (coded_read P before (block_at x y log2)) size x y log2 decoder.old) decoder.new (Takes (S.stands_for sink.old) (S.stands_for sink.new) size x y log2) }
+        → Hands result (placed_after (coded_read P before block) size block decoder.old) decoder.new (Takes (S.stands_for sink.old) (S.stands_for sink.new) size block) }
     ensures open { IfSome result (λ _. IsOpen decoder.new) }
     ensures mode { IfSome result (λ kept. IsMode kept.kind) }
     ensures last { S.last sink.new ≡ S.last sink.old }
 {
-    if decoder.bin(Place::Context(7))? {
-        read_own(decoder, size, grid, x, y, log2, sink)
+    if decoder.bin(Place::Context(PRED_MODE_FLAG))? {
+        read_own(decoder, size, grid, block, sink)
     } else {
-        read_moved(decoder, size, motion, x, y, log2, sink)
+        read_moved(decoder, size, motion, block, sink)
     }
 }
 
@@ -62,30 +61,28 @@ fn read_coded<S: LeafSink>(
     size: Size,
     grid: &Grid,
     motion: &MotionGrid,
-    x: u32,
-    y: u32,
-    log2: u32,
+    block: CodingBlock,
     sink: &mut S,
 ) -> Option<Kept>
     requires open { IsOpen decoder.old }
     requires grid { grid.now.size ≡ size }
     requires motion { motion.now.size ≡ size }
     requires size { (S.last sink.old).size ≡ size }
-    requires low { 3 ≤ log2 }
-    requires high { log2 ≤ 5 }
-    requires column { x % 2 ^ log2 ≡ 0 }
-    requires row { y % 2 ^ log2 ≡ 0 }
-    requires across { x + 2 ^ log2 ≤ coded size.w }
-    requires down { y + 2 ^ log2 ≤ coded size.h }
+    requires low { 3 ≤ block.log2 }
+    requires high { block.log2 ≤ 5 }
+    requires column { block.x % 2 ^ block.log2 ≡ 0 }
+    requires row { block.y % 2 ^ block.log2 ≡ 0 }
+    requires across { block.x + 2 ^ block.log2 ≤ coded size.w }
+    requires down { block.y + 2 ^ block.log2 ≤ coded size.h }
     ensures value { (before : List Moving) → StandsFor grid.now (leaves before) → HasMotion motion.now before
-        → Hands result (placed_after (coded_read kind before (block_at x y log2)) size x y log2 decoder.old) decoder.new (Takes (S.stands_for sink.old) (S.stands_for sink.new) size x y log2) }
+        → Hands result (placed_after (coded_read kind before block) size block decoder.old) decoder.new (Takes (S.stands_for sink.old) (S.stands_for sink.new) size block) }
     ensures open { IfSome result (λ _. IsOpen decoder.new) }
     ensures mode { IfSome result (λ kept. IsMode kept.kind) }
     ensures last { S.last sink.new ≡ S.last sink.old }
 {
     match kind {
-        SliceKind::I => read_own(decoder, size, grid, x, y, log2, sink),
-        SliceKind::P => read_inter(decoder, size, grid, motion, x, y, log2, sink),
+        SliceKind::I => read_own(decoder, size, grid, block, sink),
+        SliceKind::P => read_inter(decoder, size, grid, motion, block, sink),
     }
 }
 
@@ -96,31 +93,29 @@ fn read_rest<S: LeafSink>(
     size: Size,
     grid: &Grid,
     motion: &MotionGrid,
-    x: u32,
-    y: u32,
-    log2: u32,
+    block: CodingBlock,
     sink: &mut S,
 ) -> Option<Kept>
     requires open { IsOpen decoder.old }
     requires grid { grid.now.size ≡ size }
     requires motion { motion.now.size ≡ size }
     requires size { (S.last sink.old).size ≡ size }
-    requires low { 3 ≤ log2 }
-    requires high { log2 ≤ 5 }
-    requires column { x % 2 ^ log2 ≡ 0 }
-    requires row { y % 2 ^ log2 ≡ 0 }
-    requires across { x + 2 ^ log2 ≤ coded size.w }
-    requires down { y + 2 ^ log2 ≤ coded size.h }
+    requires low { 3 ≤ block.log2 }
+    requires high { block.log2 ≤ 5 }
+    requires column { block.x % 2 ^ block.log2 ≡ 0 }
+    requires row { block.y % 2 ^ block.log2 ≡ 0 }
+    requires across { block.x + 2 ^ block.log2 ≤ coded size.w }
+    requires down { block.y + 2 ^ block.log2 ≤ coded size.h }
     ensures value { (before : List Moving) → StandsFor grid.now (leaves before) → HasMotion motion.now before
-        → Hands result (rest_read kind size before x y log2 decoder.old) decoder.new (Takes (S.stands_for sink.old) (S.stands_for sink.new) size x y log2) }
+        → Hands result (rest_read kind size before block decoder.old) decoder.new (Takes (S.stands_for sink.old) (S.stands_for sink.new) size block) }
     ensures open { IfSome result (λ _. IsOpen decoder.new) }
     ensures mode { IfSome result (λ kept. IsMode kept.kind) }
     ensures last { S.last sink.new ≡ S.last sink.old }
 {
-    if read_skip_flag(decoder, kind, grid, x, y)? {
-        return take_copied(size, x, y, log2, motion.merge(x, y, log2), sink);
+    if read_skip_flag(decoder, kind, grid, block.x, block.y)? {
+        return take_copied(size, block, motion.merge(block), sink);
     }
-    read_coded(decoder, kind, size, grid, motion, x, y, log2, sink)
+    read_coded(decoder, kind, size, grid, motion, block, sink)
 }
 
 /// Reads a coding unit of side 2^log2 at (x, y) (7.3.8.5), hands it to the sink, and sets it in both grids.
@@ -134,36 +129,32 @@ pub fn read_unit<S: LeafSink>(
     size: Size,
     grid: &mut Grid,
     motion: &mut MotionGrid,
-    x: u32,
-    y: u32,
-    log2: u32,
+    block: CodingBlock,
     sink: &mut S,
 ) -> Option<()>
     requires open { IsOpen decoder.old }
     requires grid { grid.old.size ≡ size }
     requires motion { motion.old.size ≡ size }
     requires size { (S.last sink.old).size ≡ size }
-    requires low { 3 ≤ log2 }
-    requires high { log2 ≤ 5 }
-    requires column { x % 2 ^ log2 ≡ 0 }
-    requires row { y % 2 ^ log2 ≡ 0 }
-    requires across { x + 2 ^ log2 ≤ coded size.w }
-    requires down { y + 2 ^ log2 ≤ coded size.h }
-    ensures read { (before : List Moving) → AreKept grid.old motion.old before → Reads result (coding_unit_read kind size before (block_at x y log2) decoder.old) decoder.new
-        (AreTaken (S.stands_for sink.old) (S.stands_for sink.new) size x y grid.new motion.new before) }
+    requires low { 3 ≤ block.log2 }
+    requires high { block.log2 ≤ 5 }
+    requires column { block.x % 2 ^ block.log2 ≡ 0 }
+    requires row { block.y % 2 ^ block.log2 ≡ 0 }
+    requires across { block.x + 2 ^ block.log2 ≤ coded size.w }
+    requires down { block.y + 2 ^ block.log2 ≤ coded size.h }
+    ensures read { (before : List Moving) → AreKept grid.old motion.old before → Reads result (coding_unit_read kind size before block decoder.old) decoder.new
+        (AreTaken (S.stands_for sink.old) (S.stands_for sink.new) size block.x block.y grid.new motion.new before) }
     ensures open { IfSome result (λ _. IsOpen decoder.new) }
     ensures grid { grid.new.size ≡ size }
     ensures motion { motion.new.size ≡ size }
     ensures last { S.last sink.new ≡ S.last sink.old }
 {
-    expect(decoder, 0, true)?;
-    let kept = read_rest(decoder, kind, size, grid, motion, x, y, log2, sink)?;
+    expect(decoder, CU_TRANSQUANT_BYPASS_FLAG, true)?;
+    let kept = read_rest(decoder, kind, size, grid, motion, block, sink)?;
     grid.set(Leaf {
-        x,
-        y,
-        log2,
+        block,
         kind: kept.kind,
     });
-    motion.set(x, y, log2, kept.vector);
+    motion.set(block, kept.vector);
     Some(())
 }

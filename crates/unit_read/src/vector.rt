@@ -8,6 +8,7 @@ ghost use Rattle.unit_read.specs.Vectors.{whole_of};
 
 use cabac_dec::{Decoder, Place};
 use h265_model::Vector;
+use h265_model::syntax_elements::{ABS_MVD_GREATER0_FLAG, ABS_MVD_GREATER1_FLAG, MVP_L0_FLAG};
 use residual_read::read_exp_golomb;
 
 // Reads abs_mvd_greater1_flag, where the part isn't 0.
@@ -19,7 +20,7 @@ fn read_greater1(decoder: &mut Decoder, greater0: bool) -> Option<bool>
     if !greater0 {
         return Some(false);
     }
-    decoder.bin(Place::Context(128))
+    decoder.bin(Place::Context(ABS_MVD_GREATER1_FLAG))
 }
 
 // Reads how far a part is from 0, where it isn't 0.
@@ -67,8 +68,8 @@ fn read_difference(decoder: &mut Decoder) -> Option<Vector>
     ensures value { Answers result (difference_read decoder.old) decoder.new }
     ensures open { IfSome result (λ _. IsOpen decoder.new) }
 {
-    let x_greater0 = decoder.bin(Place::Context(127))?;
-    let y_greater0 = decoder.bin(Place::Context(127))?;
+    let x_greater0 = decoder.bin(Place::Context(ABS_MVD_GREATER0_FLAG))?;
+    let y_greater0 = decoder.bin(Place::Context(ABS_MVD_GREATER0_FLAG))?;
     let x_greater1 = read_greater1(decoder, x_greater0)?;
     let y_greater1 = read_greater1(decoder, y_greater0)?;
     let x = read_part(decoder, x_greater0, x_greater1)?;
@@ -140,6 +141,6 @@ pub(crate) fn read_vector(decoder: &mut Decoder, predictors: (Vector, Vector)) -
     ensures open { IfSome result (λ _. IsOpen decoder.new) }
 {
     let difference = read_difference(decoder)?;
-    let second = decoder.bin(Place::Context(126))?;
+    let second = decoder.bin(Place::Context(MVP_L0_FLAG))?;
     whole_vector(named(second, predictors), difference)
 }

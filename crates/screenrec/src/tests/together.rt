@@ -24,6 +24,9 @@ const GREEN: &[u8] = b"fill 0 0 32 32 00ff00\ncut\n";
 
 const TWO_DOTS: &[u8] = b"fill 0 0 1 1 ff0000\nfill 0 0 1 1 00ff00\ncut\n";
 
+// Of version 2: moves all that is shown, so that each order of the lines shows something else.
+const MOVES: &[u8] = b"paint 2\ncopy 0 0 30 31 2 1\nfill 0 0 7 5 2040c0\ncopy 9 9 20 20 8 7\ncut\n";
+
 // How long a gate holds a client, in turns.
 const PATIENCE: u32 = 1_000_000_000;
 
@@ -174,7 +177,8 @@ fn add_line(merged: &mut Script, script: &Script, index: u32) -> Result<(), Fail
     Ok(())
 }
 
-// The text of one script of the lines in the order in which they were accepted.
+// The text of one script of the lines in the order in which they were accepted: those of clients 0, 2, .. are the first file's, and those of
+// clients 1, 3, .. the second one's.
 fn merged(alloc: Global, first: &[u8], second: &[u8], order: &[Entry]) -> Result<Vec<u8>, Fail> {
     if first.len().max(second.len()) > 1000 {
         return Err(Fail::from("too long"));
@@ -187,7 +191,9 @@ fn merged(alloc: Global, first: &[u8], second: &[u8], order: &[Entry]) -> Result
             return Err(Fail::from("too many lines"));
         }
         match *entry {
-            Entry::Line { client: 0, index } => add_line(&mut merged, &first, index)?,
+            Entry::Line { client, index } if client % 2 == 0 => {
+                add_line(&mut merged, &first, index)?;
+            }
             Entry::Line { index, .. } => add_line(&mut merged, &second, index)?,
             Entry::Take { .. } => {}
         }
@@ -195,13 +201,13 @@ fn merged(alloc: Global, first: &[u8], second: &[u8], order: &[Entry]) -> Result
     Ok(write_script(alloc, &merged)?)
 }
 
-// Records two files of so many lines each, of which the last alone is a cut, and compares what comes of it with the merged
-// script's stream. Gives the order.
-fn record_both<R: Threads + Wait + Sync + Abort + AllocGlobal, G: Gate + Sync>(
+// Records two files, each for so many clients by turns, and compares what comes of it with the merged script's stream.
+fn record_all<R: Threads + Wait + Sync + Abort + AllocGlobal, G: Gate + Sync>(
     rt: &R,
     workers: &str,
     files: [&[u8]; 2],
-    lines: u32,
+    times: u32,
+    counts: (u32, u32),
     gate: &G,
 ) -> Result<Outcome, Fail> {
     let alloc = rt.alloc();
@@ -209,10 +215,13 @@ fn record_both<R: Threads + Wait + Sync + Abort + AllocGlobal, G: Gate + Sync>(
     shelf.put("a", files[0])?;
     shelf.put("b", files[1])?;
     let mut report = MemorySink::new(alloc, &[])?;
-    let words = ["record", "32x32", workers, "0", "0", "o", "a", "b"];
+    let mut words = ["record", "32x32", workers, "0", "0", "o"].to_vec(alloc)?;
+    for _ in 0..times {
+        words.push("a")?;
+        words.push("b")?;
+    }
     let outcome = run(rt, alloc, &words, &mut shelf, &mut report, gate);
     assert_eq!(rt; outcome.status, Status::Ok);
-    assert!(rt; is_played(outcome.order.as_slice(), lines, 2));
     let text = merged(alloc, files[0], files[1], outcome.order.as_slice())?;
     shelf.put("m", &text)?;
     let mut other = MemorySink::new(alloc, &[])?;
@@ -223,10 +232,32 @@ fn record_both<R: Threads + Wait + Sync + Abort + AllocGlobal, G: Gate + Sync>(
     assert!(rt; shelf.file("o").is_some());
     assert_eq!(rt; shelf.file("o"), shelf.file("p"));
     assert_eq!(rt; report.text(), other.text());
-    let (paints, bytes) = (lines.saturating_sub(1).saturating_mul(2), outcome.written);
-    let text = format!(in alloc; "pictures 2\npaints {paints}\nbytes {bytes}\n")?;
+    let (pictures, paints) = counts;
+    let bytes = outcome.written;
+    let text = format!(in alloc; "pictures {pictures}\npaints {paints}\nbytes {bytes}\n")?;
     assert_eq!(rt; report.text(), text.as_bytes());
     Ok(outcome)
+}
+
+// Records two files of so many lines each, of which the last alone is a cut.
+fn record_both<R: Threads + Wait + Sync + Abort + AllocGlobal, G: Gate + Sync>(
+    rt: &R,
+    workers: &str,
+    files: [&[u8]; 2],
+    lines: u32,
+    gate: &G,
+) -> Result<Outcome, Fail> {
+    let paints = lines.saturating_sub(1).saturating_mul(2);
+    let outcome = record_all(rt, workers, files, 1, (2, paints), gate)?;
+    assert!(rt; is_played(outcome.order.as_slice(), lines, 2));
+    Ok(outcome)
+}
+
+// As many clients as there may be; half of them have a file of version 2, and copy.
+#[test]
+fn sixty_four_clients_of_both_versions(rt: HostRuntime) -> Result<(), Fail> {
+    record_all(&rt, "4", [TWO_DOTS, MOVES], 32, (64, 160), &NoGate)?;
+    Ok(())
 }
 
 #[test]

@@ -12,11 +12,11 @@ from mode component log2 side samples line out e f is =
 pub returns-then-filtered : goal.returns-then-filtered
 unfolding references
 returns-then-filtered c =
-    from c.args.mode c.args.component c.args.log2 _ _ _ _ (c.filter.ensures.side ∙ c.refs-line.ensures.side)
-    (c.filter.ensures.samples ∙ (ap (λ (l : List ℕ). model.smoothed l) c.refs-line.ensures.samples ∙ sym (cond-true (model.is_filtered c.args.mode c.args.log2) _ _ (sym c.filtered.ensures ∙ c.if-filtered.true)))) c.predict.ensures
+    from c.args.mode c.args.component c.args.block.log2 _ _ _ _ (c.filter.ensures.side ∙ c.refs-line.ensures.side)
+    (c.filter.ensures.samples ∙ (ap (λ (l : List ℕ). model.smoothed l) c.refs-line.ensures.samples ∙ sym (cond-true (model.is_filtered c.args.mode c.args.block.log2) _ _ (sym c.filtered.ensures ∙ c.if-filtered.true)))) c.predict.ensures
 
 pub returns-else-filtered : goal.returns-else-filtered
 unfolding references
 returns-else-filtered c =
-    from c.args.mode c.args.component c.args.log2 _ _ _ _ c.refs-line.ensures.side
-    (c.refs-line.ensures.samples ∙ sym (cond-false (model.is_filtered c.args.mode c.args.log2) _ _ (sym c.filtered.ensures ∙ c.if-filtered.false))) c.predict-else-filtered.ensures
+    from c.args.mode c.args.component c.args.block.log2 _ _ _ _ c.refs-line.ensures.side
+    (c.refs-line.ensures.samples ∙ sym (cond-false (model.is_filtered c.args.mode c.args.block.log2) _ _ (sym c.filtered.ensures ∙ c.if-filtered.false))) c.predict-else-filtered.ensures

@@ -1,11 +1,12 @@
-use Rattle.std.proofs.Common.{◌∙◌, sym}
-use Rattle.paint_script.proofs.Numbers.{number_up_to-numeral, number_up_to-other}
+use Rattle.std.proofs.Common.{◌∙◌, ◌&&◌, not, ap, sym}
+use Rattle.recorder_model.specs.Script.{all_digits}
+use Rattle.paint_script.proofs.Numbers.{number_up_to-digits, number_up_to-other}
 use Rattle.paint_script.proofs.number.number_up_to.Goals as goal
 
-pub returns-then-is_numeral-clause-value : goal.returns-then-is_numeral-clause-value
-returns-then-is_numeral-clause-value c =
-    c.value_up_to.ensures.value ∙ sym (number_up_to-numeral c.args.most c.args.word.now (sym c.is_numeral.ensures ∙ c.if-is_numeral.true))
+pub returns-then-lacks_first_digit-clause-value : goal.returns-then-lacks_first_digit-clause-value
+returns-then-lacks_first_digit-clause-value c =
+    sym (number_up_to-other c.args.most c.args.word.now (c.lacks_first_digit.ensures ∙ ap (λ b. not b && all_digits c.args.word.now) c.if-lacks_first_digit.true))
 
-pub returns-else-is_numeral-clause-value : goal.returns-else-is_numeral-clause-value
-returns-else-is_numeral-clause-value c =
-    sym (number_up_to-other c.args.most c.args.word.now (sym c.is_numeral.ensures ∙ c.if-is_numeral.false))
+pub returns-else-lacks_first_digit-clause-value : goal.returns-else-lacks_first_digit-clause-value
+returns-else-lacks_first_digit-clause-value c =
+    c.value_up_to.ensures.value ∙ sym (number_up_to-digits c.args.most c.args.word.now (c.lacks_first_digit.ensures ∙ ap (λ b. not b && all_digits c.args.word.now) c.if-lacks_first_digit.false))

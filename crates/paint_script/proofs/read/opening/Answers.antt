@@ -1,7 +1,7 @@
 use Rattle.std.proofs.Common.{◌≡◌, ◌∙◌, sym, ap, ℕ, List, ◌++◌}
 use Rattle.std.proofs.lemmas.Bool.Decides.{Decides-eqb}
 use Rattle.std.proofs.lemmas.Slice.Eq.{strip_prefix_is}
-use Rattle.recorder_model.specs.Script.{version_line, version_of, script_of, pieces_script}
+use Rattle.recorder_model.specs.Script.{version_of, script_of, pieces_script}
 use Rattle.paint_script.proofs.Readings.{pieces_of, read-version_1, read-version_2}
 use Rattle.paint_script.proofs.read.opening.Goals as goal
 

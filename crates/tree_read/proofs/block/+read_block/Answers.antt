@@ -1,11 +1,9 @@
-use Rattle.std.proofs.Common.{◌≡◌, sym, ◌∙◌, ap, subst, rules, arith, ℕ, suc, ◌+◌, ◌-◌, ◌^◌, ◌<◌, Some, true, false}
+use Rattle.std.proofs.Common.{sym, ◌∙◌, ap, subst, rules, arith, ℕ, ◌+◌, ◌-◌, ◌<◌, Some}
 use Rattle.h265_model.specs.Plain.{ctus}
-use Rattle.h265_model.specs.Predict.{is_inside}
 use Rattle.h265_model.specs.Motion.{leaves}
-use Rattle.h265_model.specs.Tree.{tree_read}
-use Rattle.unit_read.specs.Units.{Reads, AreTaken}
+use Rattle.unit_read.specs.Units.{AreTaken}
 use Rattle.tree_read.proofs.TreeReads.{Step, Ends, none_taken, split_none, split_no, ends_1, ends_2, ends_3, ends_4, all_done, reads_as}
-use Rattle.tree_read.proofs.Splits.{IsQuartered, quartered, inside_parts, by_one}
+use Rattle.tree_read.proofs.Splits.{IsQuartered, quartered, by_one}
 use Rattle.tree_read.proofs.block.+read_block.Goals as goal
 
 pub returns-then-not-is_inside-clause-read : goal.returns-then-not-is_inside-clause-read

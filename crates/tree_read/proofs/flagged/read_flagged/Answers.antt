@@ -1,5 +1,4 @@
 use Rattle.std.proofs.Common.{◌∙◌, sym}
-use Rattle.h265_model.specs.Tree.{ctu_read}
 use Rattle.h265_model.specs.Plain.{ctu_x, ctu_y}
 use Rattle.unit_read.specs.Units.{AreTaken}
 use Rattle.tree_read.proofs.FlaggedReads.{flagged_none, flag_none, flag_other, flag_same}

@@ -1,4 +1,4 @@
-use Rattle.tree_read.proofs.Splits.{split_zero, split_part, split_flag, whole_eight, whole_from}
+use Rattle.tree_read.proofs.Splits.{split_zero, split_part, split_flag}
 use Rattle.std.proofs.Common.{rules, sym, ◌∙◌}
 use Rattle.tree_read.proofs.split.read_split.Goals as goal
 

@@ -9,6 +9,6 @@ pub returns-clause-value : goal.returns-clause-value
 returns-clause-value g c = λ e. (
   Copied c.args.vector,
   refl,
-  placed_there c.args.size c.args.x c.args.y c.args.log2 (Copied c.args.vector) c.args.vector e refl (sym c.has_source.ensures ∙ c.if-not-has_source.false),
-  λ units stood has. c.copied.ensures.taken units stood (subst (λ (s : Size). HasAvailable s units c.args.x c.args.y) (sym c.requires.size) has),
+  placed_there c.args.size c.args.block.x c.args.block.y c.args.block.log2 (Copied c.args.vector) c.args.vector e refl (sym c.has_source.ensures ∙ c.if-not-has_source.false),
+  λ units stood has. c.copied.ensures.taken units stood (subst (λ (s : Size). HasAvailable s units c.args.block.x c.args.block.y) (sym c.requires.size) has),
 )

@@ -7,28 +7,29 @@ use Rattle.canvas.specs.Drawing.{Pictures, Draws}
 use Rattle.canvas.proofs.Units.{unit_drawn}
 use Rattle.canvas.proofs.Components.{AreDrawn, square_as, three_drawn, samples_block}
 use Rattle.canvas.proofs.canvas.CanvasLeafSink.samples.Goals as goal
+use Rattle.h265_model.specs.Plain.{block_at}
 
 pub returns-clause-taken : goal.returns-clause-taken
 returns-clause-taken c = λ units draws has.
-    let log2 : ℕ = c.args.log2 in
+    let log2 : ℕ = c.args.block.log2 in
     let a : ℕ = 2 ^ log2 * 2 ^ log2 in
     let samples : List ℕ = c.args.samples.now in
     let old : Pictures = record { last = c.self.inside.last; drawn = c.self.inside.drawn } in
     let new : Pictures = record { last = c.self.inside.last; drawn = c.put_block-3.new.self } in
-    let u : ReadUnit = unit c.args.x c.args.y log2 (Samples (thirds a samples)) in
+    let u : ReadUnit = unit (block_at c.args.block.x c.args.block.y log2) (Samples (thirds a samples)) in
     let area : c.area-area.result ≡ a = c.area-area.ensures.value in
     let n : c.side-n.result ≡ 2 ^ log2 = c.side-n.ensures.value in
     let t1 : 2 * c.area-area.result - c.area-area.result ≡ a = omega arith in
     let t2 : 3 * c.area-area.result - 2 * c.area-area.result ≡ a = omega arith in
     let s2 : 2 * c.area-area.result ≡ a + a = omega arith in
-    let are : AreDrawn old.drawn c.put_block.new.self c.put_block-2.new.self c.put_block-3.new.self c.args.x c.args.y (2 ^ log2) (take a samples) (take a (drop a samples)) (take a (drop (a + a) samples)) = record {
+    let are : AreDrawn old.drawn c.put_block.new.self c.put_block-2.new.self c.put_block-3.new.self c.args.block.x c.args.block.y (2 ^ log2) (take a samples) (take a (drop a samples)) (take a (drop (a + a) samples)) = record {
       size1 = c.put_block.ensures.size;
       size2 = c.put_block-2.ensures.size ∙ c.put_block.ensures.size;
       size3 = c.put_block-3.ensures.size ∙ (c.put_block-2.ensures.size ∙ c.put_block.ensures.size);
-      first = square_as _ _ 0 c.args.x c.args.y _ _ _ _ n (ap (λ (k : ℕ). take k samples) area) c.put_block.ensures.put;
-      second = square_as _ _ 1 c.args.x c.args.y _ _ _ _ n (ap (λ (k : ℕ). take k (drop c.area-area.result samples)) t1 ∙ ap (λ (k : ℕ). take a (drop k samples)) area) c.put_block-2.ensures.put;
-      third = square_as _ _ 2 c.args.x c.args.y _ _ _ _ n (ap (λ (k : ℕ). take k (drop (2 * c.area-area.result) samples)) t2 ∙ ap (λ (k : ℕ). take a (drop k samples)) s2) c.put_block-3.ensures.put;
+      first = square_as _ _ 0 c.args.block.x c.args.block.y _ _ _ _ n (ap (λ (k : ℕ). take k samples) area) c.put_block.ensures.put;
+      second = square_as _ _ 1 c.args.block.x c.args.block.y _ _ _ _ n (ap (λ (k : ℕ). take k (drop c.area-area.result samples)) t1 ∙ ap (λ (k : ℕ). take a (drop k samples)) area) c.put_block-2.ensures.put;
+      third = square_as _ _ 2 c.args.block.x c.args.block.y _ _ _ _ n (ap (λ (k : ℕ). take k (drop (2 * c.area-area.result) samples)) t2 ∙ ap (λ (k : ℕ). take a (drop k samples)) s2) c.put_block-3.ensures.put;
     } in
     unit_drawn old new units u (subst (λ (p : Pictures). Draws p units) (sym c.self.view_is) draws)
     (three_drawn old new units u c.put_block.new.self c.put_block-2.new.self (take a samples) (take a (drop a samples)) (take a (drop (a + a) samples)) refl c.self.invariant.same are
-    (λ before stores component small. samples_block old.last.size before (with_units old.last.size before blank units) c.args.x c.args.y log2 samples _ _ _ refl refl refl component small))
+    (λ before stores component small. samples_block old.last.size before (with_units old.last.size before blank units) c.args.block.x c.args.block.y log2 samples _ _ _ refl refl refl component small))

@@ -6,5 +6,5 @@ use Rattle.motion_grid.proofs.grid.MotionGrid.merge.Goals as goal
 pub returns : goal.returns
 returns c = λ units has.
     or_none_is c.neighbour.result c.unwrap_or.result c.unwrap_or.ensures
-    ∙ (ap or_none (c.neighbour.ensures ∙ ap (λ (n : ℕ). five c.args.self.now c.args.x c.args.y n) c.side-n.ensures.value)
-    ∙ merge_is c.args.self.now units c.args.x c.args.y c.args.log2 has)
+    ∙ (ap or_none (c.neighbour.ensures ∙ ap (λ (n : ℕ). five c.args.self.now c.args.block.x c.args.block.y n) c.side-n.ensures.value)
+    ∙ merge_is c.args.self.now units c.args.block.x c.args.block.y c.args.block.log2 has)
