@@ -31,13 +31,20 @@ fn fill_left_side(
     ensures filled { IsFilled line.new first (neighbour picture.now.size (picture_of picture.now) component block) (2 * side block) }
     ensures carried { result ≡ carried first (neighbour picture.now.size (picture_of picture.now) component block) (2 * side block) }
 {
-    let (x, y) = (block.x, block.y);
     let n = side_of(block.log2);
     let mut before = first;
     for part in 0..n / 4 {
-        let row = y + (2 * n - 8 * (part + 1));
+        let row = block.y + (2 * n - 8 * (part + 1));
         let at = 8 * part as usize;
-        before = fill_left(picture, component, x, y, row, before, &mut line[at..at + 8]);
+        before = fill_left(
+            picture,
+            component,
+            block.x,
+            block.y,
+            row,
+            before,
+            &mut line[at..at + 8],
+        );
     }
     before
 }
