@@ -8,7 +8,7 @@ use Rattle.std.specs.FinMap.{insert}
 use Rattle.recorder_model.specs.declared.line.Line.{Line}
 use Rattle.recorder_model.specs.declared.line.Line.TheVariants.{Fill, Blit, Copy, Cut}
 use Rattle.h265_model.specs.Plain.{joined}
-use Rattle.h265_model.specs.Settings.{Settings}
+use Rattle.h265_model.specs.Settings.{has_segments, Settings}
 use Rattle.recorder_model.specs.Script.{is_cut}
 use Rattle.recorder_model.specs.Painting.{raster, rasters_after}
 use Rattle.h265_model.specs.NalUnits.{stream_bytes}
@@ -182,7 +182,7 @@ module _ (settings : Settings) where
 
   -- ---- the first piece
 
-  pub none_cut : pieces_after_lines settings [] ≡ stream_bytes (param_units settings.size false) ∷ []
+  pub none_cut : pieces_after_lines settings [] ≡ stream_bytes (param_units settings.size (has_segments settings.extra)) ∷ []
   unfolding pieces pieces_after rasters_after
   none_cut = refl
 
