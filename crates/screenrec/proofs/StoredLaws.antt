@@ -190,8 +190,8 @@ module _ (settings : Settings) where
       y ≡ insert x name (file_at x name ++ part) → IsCutShort settings name (rasters_after settings.size [] lines) start y 0
   first_stopped name lines start x y part front p q =
       let all = pieces_of_front settings lines 0 in
-      let one : pieces_after_lines settings lines ≡ stream_bytes (param_units settings.size false) ∷ all.0 = all.1 ∙ ap (λ (l : List (List ℕ)). l ++ all.0) none_cut in
-      let first : stream_after settings [] ≡ stream_bytes (param_units settings.size false) = ap joined none_cut ∙ append-nil (stream_bytes (param_units settings.size false)) in
+      let one : pieces_after_lines settings lines ≡ stream_bytes (param_units settings.size (has_segments settings.extra)) ∷ all.0 = all.1 ∙ ap (λ (l : List (List ℕ)). l ++ all.0) none_cut in
+      let first : stream_after settings [] ≡ stream_bytes (param_units settings.size (has_segments settings.extra)) = ap joined none_cut ∙ append-nil (stream_bytes (param_units settings.size (has_segments settings.extra))) in
       record {
         whole = 0;
         part = part;
