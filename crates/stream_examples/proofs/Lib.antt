@@ -1,6 +1,7 @@
 pub mod BlackExamples
 pub mod ExtraExamples
 pub mod RefusalExamples
+pub mod CheckExamples
 pub mod MotionExamples
 pub mod SegmentExamples
 pub mod ChoiceExamples
