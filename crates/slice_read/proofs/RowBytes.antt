@@ -1,6 +1,6 @@
 -- Rows that are read from their bytes.
 use Rattle.std.proofs.Common.{◌≡◌, refl, sym, ◌∙◌, ap, subst, ℕ, zero, suc, ◌+◌, ◌*◌, ◌/◌, ◌%◌, ◌<◌, ◌≤◌, Bool, true, false, Some, None, Option, List, [], ◌∷◌, ◌++◌, length, map, append_assoc, append-nil, arith}
-use Rattle.std.specs.Prelude.{if◌then◌else◌, ◌↔◌, IsTrue, IsSome}
+use Rattle.std.specs.Prelude.{if◌then◌else◌}
 use Rattle.std.proofs.lemmas.Bool.{le-leb, lt-leb}
 use Rattle.std.proofs.lemmas.List.{length-map}
 use Rattle.h265_model.specs.declared.leaf.SliceKind.{SliceKind}
@@ -132,22 +132,17 @@ slice_row kind size row before lawful = record { yields = yields_slice_row kind 
 pub segment_row : (kind : SliceKind) (size : Size) (row : ℕ) (before : List Moving) → AreModes (leaves before) → IsOfRow kind size row (segment_row_read kind size row before)
 segment_row kind size row before lawful = record { yields = yields_segment_row kind size row before lawful }
 
-as_false : (b : Bool) (o : Option (Unit {0})) → o ≡ None → (IsTrue b ↔ IsSome o) → b ≡ false
-as_false true None is done = absurd (let some : false ≡ true = done.0 refl in cc)
-as_false true (Some x) is done = absurd (cc)
-as_false false o is done = refl
-
 -- the bytes go on behind the row, or end too early
-pub not_done : (read : Reader (List ReadCtu)) (own begun bytes : List ℕ) (e d : Engine) (given : Option (List ℕ)) (done : Option (Unit {0})) (Holds : List ReadUnit → Type 0) → own ≡ begun → start own (bits bytes) ≡ Some e
-    → ReadsRow (Some given) (read e) d Holds → done ≡ None → (IsTrue (is_done d) ↔ IsSome done) → row_of_bytes read begun bytes ≡ None
-not_done read own begun bytes e d given done Holds same h (cs, r, second, holds) none is = ended_as read own begun bytes e d cs false same h r (as_false (is_done d) done none is)
+pub not_done : (read : Reader (List ReadCtu)) (own begun bytes : List ℕ) (e d : Engine) (given : Option (List ℕ)) (done : Bool) (Holds : List ReadUnit → Type 0) → own ≡ begun → start own (bits bytes) ≡ Some e
+    → ReadsRow (Some given) (read e) d Holds → done ≡ is_done d → done ≡ false → row_of_bytes read begun bytes ≡ None
+not_done read own begun bytes e d given done Holds same h (cs, r, second, holds) is none = ended_as read own begun bytes e d cs false same h r (sym is ∙ none)
 
-pub row_done : (kind : SliceKind) (size : Size) (row : ℕ) (read : Reader (List ReadCtu)) (own begun bytes : List ℕ) (before : List Moving) (e d : Engine) (given : Option (List ℕ)) (done : Unit {0}) (stood stands : List ReadUnit → Type 0) (cells : modes.Cells) (vectors : motions.Cells)
-    → IsOfRow kind size row read → own ≡ begun → start own (bits bytes) ≡ Some e → ReadsRow (Some given) (read e) d (AreTaken stood stands size 0 (row * 32) cells vectors before) → (IsTrue (is_done d) ↔ IsSome (Some done))
+pub row_done : (kind : SliceKind) (size : Size) (row : ℕ) (read : Reader (List ReadCtu)) (own begun bytes : List ℕ) (before : List Moving) (e d : Engine) (given : Option (List ℕ)) (done : Bool) (stood stands : List ReadUnit → Type 0) (cells : modes.Cells) (vectors : motions.Cells)
+    → IsOfRow kind size row read → own ≡ begun → start own (bits bytes) ≡ Some e → ReadsRow (Some given) (read e) d (AreTaken stood stands size 0 (row * 32) cells vectors before) → done ≡ is_done d → done ≡ true
     → ReadsRowOf (Some given) (row_of_bytes read begun bytes) size row (IsRowTaken stood stands size row cells vectors before)
-row_done kind size row read own begun bytes before e d given done stood stands cells vectors of_row same h (cs, r, second, taken) is = (
+row_done kind size row read own begun bytes before e d given done stood stands cells vectors of_row same h (cs, r, second, taken) is all = (
   cs,
-  ended_as read own begun bytes e d cs true same h r (is.1 refl),
+  ended_as read own begun bytes e d cs true same h r (sym is ∙ all),
   hands size row given cs second (of_row.yields.from e d cs r).many,
   record {
     taken = λ units stood' has. (taken.taken units stood' has, next_available kind size row units cs (of_row.yields.from e d cs r) has);

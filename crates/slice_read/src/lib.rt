@@ -8,3 +8,6 @@ mod slice;
 pub use row::read_segment;
 pub use slice::read_slice;
 pub use tree_read::{Grid, LeafSink, MotionGrid, Size, SliceKind};
+
+#[cfg(test)]
+mod tests;

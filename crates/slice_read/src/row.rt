@@ -2,8 +2,10 @@
 ghost use Rattle.std.specs.Prelude.{◌≡◌, ◌<◌, ℕ, List};
 ghost use Rattle.h265_model.specs.Plain.{ctus};
 ghost use Rattle.h265_model.specs.Contexts.{row_start};
+ghost use Rattle.h265_model.specs.Engine.{is_done};
 ghost use Rattle.h265_model.specs.Motion.{Moving};
 ghost use Rattle.h265_model.specs.Slice.{row_of_bytes, slice_row_read, segment_read};
+ghost use Rattle.cabac_dec.specs.State.{IsEnded};
 ghost use Rattle.unit_read.specs.Units.{AreKept};
 ghost use Rattle.slice_read.specs.Slices.{IsHanded, ReadsRowOf, IsRowTaken};
 
@@ -32,6 +34,14 @@ fn contexts_at(kind: SliceKind, size: Size, row: u32, handed: Option<Contexts>) 
     }
 }
 
+// Whether nothing but the stop bit and its zeros is left behind a row (7.3.2.10).
+fn is_at_end(decoder: &mut Decoder) -> bool
+    requires { IsEnded decoder.old }
+    ensures { result ≡ is_done decoder.old }
+{
+    decoder.end().is_some()
+}
+
 /// Reads a row of a slice that is one segment from its bytes, after what the row above handed on, and gives what it hands on itself (7.3.8.1, 9.3.1).
 pub(crate) fn read_slice_row<S: LeafSink>(
     kind: SliceKind,
@@ -57,7 +67,9 @@ pub(crate) fn read_slice_row<S: LeafSink>(
     let contexts = contexts_at(kind, size, row, handed);
     let mut decoder = Decoder::new(bytes, contexts)?;
     let handed_on = read_row(&mut decoder, kind, size, grid, motion, row, sink)?;
-    decoder.end()?;
+    if !is_at_end(&mut decoder) {
+        return None;
+    }
     Some(handed_on)
 }
 
@@ -89,7 +101,9 @@ pub fn read_segment<S: LeafSink>(
 {
     let contexts = contexts_at(kind, size, row, handed);
     let mut decoder = Decoder::new(bytes, contexts)?;
-    let handed_on = read_segment_row(&mut decoder, kind, size, grid, motion, row, sink)?;
-    decoder.end()?;
-    Some(handed_on)
+    let stored = read_segment_row(&mut decoder, kind, size, grid, motion, row, sink)?;
+    if !is_at_end(&mut decoder) {
+        return None;
+    }
+    Some(stored)
 }

@@ -1,4 +1,4 @@
-use Rattle.std.proofs.Common.{refl, sym, ◌*◌, None}
+use Rattle.std.proofs.Common.{sym, ◌*◌}
 use Rattle.h265_model.specs.Contexts.{row_start}
 use Rattle.h265_model.specs.Plain.{ctus}
 use Rattle.h265_model.specs.Slice.{slice_row_read}
@@ -16,14 +16,14 @@ returns-in_err-handed_on-clause-read g c = λ before above handed kept.
     rw c.from_residual-in_err-handed_on.ensures (no_row (slice_row_read c.args.kind c.args.size c.args.row before) c.contexts_at-contexts.result (row_start c.args.kind (ctus c.args.size.w) c.args.row above) c.args.bytes.now c.in_ok-decoder.decoder
     (c.contexts_at-contexts.ensures above handed) (sym c.in_ok-decoder.ensures.value) (c.in_err-handed_on.ensures.read before kept))
 
-pub returns-in_err-end-clause-read : goal.returns-in_err-end-clause-read
-returns-in_err-end-clause-read g c = λ before above handed kept.
-    rw c.from_residual-in_err-end.ensures (not_done (slice_row_read c.args.kind c.args.size c.args.row before) c.contexts_at-contexts.result (row_start c.args.kind (ctus c.args.size.w) c.args.row above) c.args.bytes.now c.in_ok-decoder.decoder c.read_row.new.decoder
-    c.in_ok-handed_on.handed_on None (AreTaken (g.S.LeafSink.stands_for c.args.sink.now) (g.S.LeafSink.stands_for c.read_row.new.sink) c.args.size 0 (c.args.row * 32) c.read_row.new.grid c.read_row.new.motion before)
-    (c.contexts_at-contexts.ensures above handed) (sym c.in_ok-decoder.ensures.value) (c.in_ok-handed_on.ensures.read before kept) refl c.in_err-end.ensures.done)
+pub returns-then-not-is_at_end-clause-read : goal.returns-then-not-is_at_end-clause-read
+returns-then-not-is_at_end-clause-read g c = λ before above handed kept.
+    not_done (slice_row_read c.args.kind c.args.size c.args.row before) c.contexts_at-contexts.result (row_start c.args.kind (ctus c.args.size.w) c.args.row above) c.args.bytes.now c.in_ok-decoder.decoder c.read_row.new.decoder
+    c.in_ok-handed_on.handed_on c.is_at_end.result (AreTaken (g.S.LeafSink.stands_for c.args.sink.now) (g.S.LeafSink.stands_for c.read_row.new.sink) c.args.size 0 (c.args.row * 32) c.read_row.new.grid c.read_row.new.motion before)
+    (c.contexts_at-contexts.ensures above handed) (sym c.in_ok-decoder.ensures.value) (c.in_ok-handed_on.ensures.read before kept) c.is_at_end.ensures c.if-not-is_at_end.true
 
 pub returns-clause-read : goal.returns-clause-read
 returns-clause-read g c = λ before above handed kept.
     row_done c.args.kind c.args.size c.args.row (slice_row_read c.args.kind c.args.size c.args.row before) c.contexts_at-contexts.result (row_start c.args.kind (ctus c.args.size.w) c.args.row above) c.args.bytes.now before c.in_ok-decoder.decoder
-    c.read_row.new.decoder c.in_ok-handed_on.handed_on c.in_ok-end.field-0 (g.S.LeafSink.stands_for c.args.sink.now) (g.S.LeafSink.stands_for c.read_row.new.sink) c.read_row.new.grid c.read_row.new.motion
-    (slice_row c.args.kind c.args.size c.args.row before kept.lawful) (c.contexts_at-contexts.ensures above handed) (sym c.in_ok-decoder.ensures.value) (c.in_ok-handed_on.ensures.read before kept) c.in_ok-end.ensures.done
+    c.read_row.new.decoder c.in_ok-handed_on.handed_on c.is_at_end.result (g.S.LeafSink.stands_for c.args.sink.now) (g.S.LeafSink.stands_for c.read_row.new.sink) c.read_row.new.grid c.read_row.new.motion
+    (slice_row c.args.kind c.args.size c.args.row before kept.lawful) (c.contexts_at-contexts.ensures above handed) (sym c.in_ok-decoder.ensures.value) (c.in_ok-handed_on.ensures.read before kept) c.is_at_end.ensures c.if-not-is_at_end.false
