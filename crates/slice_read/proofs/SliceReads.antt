@@ -99,8 +99,8 @@ nothing_then None = refl
 nothing_then (Some units) = refl
 
 -- nothing is available to the first row
-none_available : (size : Size) (stood : List ReadUnit → Type 0) → HasAvailable size [] 0 (0 * 32)
-none_available size stood = available_from size [] 0 (0 * 32) (0 * ctus size.w * 1024) (sym (row_order size 0)) (record { each = λ x y within less. let none : 0 * ctus size.w * 1024 ≡ 0 = omega arith in absurd (omega arith) })
+pub none_available : (size : Size) → HasAvailable size [] 0 (0 * 32)
+none_available size = available_from size [] 0 (0 * 32) (0 * ctus size.w * 1024) (sym (row_order size 0)) (record { each = λ x y within less. let none : 0 * ctus size.w * 1024 ≡ 0 = omega arith in absurd (omega arith) })
 
 pub none_read : (kind : SliceKind) (size : Size) (offsets bytes : List ℕ) (stood : List ReadUnit → Type 0) (cells : modes.Cells) (vectors : motions.Cells) (given : Option (List ℕ)) → AreKept cells vectors []
     → IsReadTo kind size offsets bytes 0 stood stood cells vectors given bytes
@@ -110,7 +110,7 @@ none_read kind size offsets bytes stood cells vectors given are = record {
   reads = slice_as kind size offsets bytes ∙ nothing_then (rows_cut kind size 0 [] [] offsets bytes);
   handed = λ below wide. absurd (omega arith);
   kept = are;
-  taken = λ stands. (stands, none_available size stood);
+  taken = λ stands. (stands, none_available size);
 }
 
 -- the next offset comes first
