@@ -23,17 +23,17 @@ use Rattle.read_laws.proofs.ReadTrees.{modes_after, yields_ctu}
 -- ---- coding tree units one after another
 
 -- the units of each
-abbrev trees_of : List ReadCtu → List (List ReadUnit)
+abbrev pub trees_of : List ReadCtu → List (List ReadUnit)
 trees_of cs = map (λ (c : ReadCtu). c.units) cs
 
-trees_joined : (cs : List ReadCtu) → joined (trees_of cs) ≡ units_of cs
+pub trees_joined : (cs : List ReadCtu) → joined (trees_of cs) ≡ units_of cs
 trees_joined [] = refl
 trees_joined (c ∷ cs) = ap (λ (l : List ReadUnit). c.units ++ l) (trees_joined cs)
 
 -- so many, each a lawful tree
-record AreRead (kind : SliceKind) (size : Size) (n ctu : ℕ) (cs : List ReadCtu) : Type 0 where
-  many : length cs ≡ n
-  lawful : AreTreesFrom kind size ctu (trees_of cs)
+pub record AreRead (kind : SliceKind) (size : Size) (n ctu : ℕ) (cs : List ReadCtu) : Type 0 where
+  pub many : length cs ≡ n
+  pub lawful : AreTreesFrom kind size ctu (trees_of cs)
 
 yields_ctus : (kind : SliceKind) (size : Size) (ends : ℕ → Bool) (n ctu : ℕ) (before : List Moving) → AreModes (leaves before) → Yields (AreRead kind size n ctu) (ctus_read kind size ends n ctu before)
 yields_ctus kind size ends zero ctu before modes = yields_give (AreRead kind size zero ctu) [] (record { many = refl; lawful = tt })
@@ -46,20 +46,20 @@ yields_ctus kind size ends (suc n) ctu before modes =
     (yields_ctus kind size ends n (suc ctu) (units_after before us) (modes_after kind size before us modes h.1))
     (λ others k. yields_give T (record { units = us; contexts = contexts } ∷ others) (record { many = ap suc k.many; lawful = (h.0, h.1, k.lawful) })))))
 
-yields_slice_row : (kind : SliceKind) (size : Size) (row : ℕ) (before : List Moving) → AreModes (leaves before) → Yields (AreRead kind size (ctus size.w) (row * ctus size.w)) (slice_row_read kind size row before)
+pub yields_slice_row : (kind : SliceKind) (size : Size) (row : ℕ) (before : List Moving) → AreModes (leaves before) → Yields (AreRead kind size (ctus size.w) (row * ctus size.w)) (slice_row_read kind size row before)
 unfolding slice_row_read
 yields_slice_row kind size row before modes =
     let T : List ReadCtu → Type 0 = AreRead kind size (ctus size.w) (row * ctus size.w) in
     yields_bind T T (ctus_read kind size (is_last size) (ctus size.w) (row * ctus size.w) before) (subset_end size row) (yields_ctus kind size (is_last size) (ctus size.w) (row * ctus size.w) before modes) (λ read h.
     yields_cond T (row + 1 == ctus size.h) (give read) (expect Terminate true (give read)) (yields_give T read h) (yields_expect T Terminate true (give read) (yields_give T read h)))
 
-yields_segment_row : (kind : SliceKind) (size : Size) (row : ℕ) (before : List Moving) → AreModes (leaves before) → Yields (AreRead kind size (ctus size.w) (row * ctus size.w)) (segment_row_read kind size row before)
+pub yields_segment_row : (kind : SliceKind) (size : Size) (row : ℕ) (before : List Moving) → AreModes (leaves before) → Yields (AreRead kind size (ctus size.w) (row * ctus size.w)) (segment_row_read kind size row before)
 unfolding segment_row_read
 yields_segment_row kind size row before modes = yields_ctus kind size (ends_row size) (ctus size.w) (row * ctus size.w) before modes
 
 -- ---- bytes
 
-row_yields : (T : List ReadCtu → Type 0) (read : Reader (List ReadCtu)) (contexts bytes : List ℕ) (cs : List ReadCtu) → Yields T read → row_of_bytes read contexts bytes ≡ Some cs → T cs
+pub row_yields : (T : List ReadCtu → Type 0) (read : Reader (List ReadCtu)) (contexts bytes : List ℕ) (cs : List ReadCtu) → Yields T read → row_of_bytes read contexts bytes ≡ Some cs → T cs
 unfolding row_of_bytes
 row_yields T read contexts bytes cs y h = begun (start contexts (bits bytes)) h
   where

@@ -1,0 +1,3 @@
+pub mod CutReads
+pub mod RowBytes
+pub mod SliceReads
