@@ -3,8 +3,8 @@ ghost use Rattle.std.specs.Prelude.{◌≡◌, ◌++◌, OnOk};
 ghost use Rattle.recorder_model.specs.Files.{WhereTold, file_at};
 
 use crate::{
-    CalmShelf, DiskShelf, FileSink, Gate, MemoryShelf, MemorySink, NoGate, ReadError, Shelf, Sink,
-    StreamSink, WriteError,
+    CalmShelf, DiskShelf, FileSink, MemoryShelf, MemorySink, ReadError, Shelf, Sink, StreamSink,
+    WriteError,
 };
 use std::fmt::Display;
 use std::io;
@@ -176,9 +176,6 @@ fn text_in_memory(rt: HostRuntime) -> Result<(), Fail> {
     );
     assert_eq!(rt; write_both(&mut sink, b"", b"."), Ok(()));
     assert_eq!(rt; sink.text(), b"onetwsixten.".as_slice());
-    NoGate.line_played(0, 0);
-    NoGate.row_published(0);
-    NoGate.row_taken(1);
     Ok(())
 }
 
