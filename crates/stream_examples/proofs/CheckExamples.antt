@@ -159,10 +159,12 @@ segment_orders =
     (sets_40x40_segments ++ segment_0 ++ segment_1 ++ (0x00 ∷ 0x00 ∷ 0x00 ∷ 0x01 ∷ 0x02 ∷ 0x01 ∷ 0xD0 ∷ 0x0C ∷ 0x5E ∷ 0x4C ∷ 0x24 ∷ 0x80 ∷ []) ++ (0x00 ∷ 0x00 ∷ 0x00 ∷ 0x01 ∷ 0x02 ∷ 0x01 ∷ 0x76 ∷ 0x08 ∷ 0xB8 ∷ [])) ∷
     -- slice_pic_order_cnt_lsb is 2 after an IDR picture
     (sets_40x40_segments ++ segment_0 ++ segment_1 ++ (0x00 ∷ 0x00 ∷ 0x00 ∷ 0x01 ∷ 0x02 ∷ 0x01 ∷ 0xD0 ∷ 0x14 ∷ 0x5E ∷ 0x4C ∷ 0x24 ∷ 0x80 ∷ []) ++ (0x00 ∷ 0x00 ∷ 0x00 ∷ 0x01 ∷ 0x02 ∷ 0x01 ∷ 0x76 ∷ 0x08 ∷ 0xB8 ∷ [])) ∷
+    -- a 1 after the first of byte_alignment in a dependent segment
+    (sets_40x40_segments ++ segment_0 ++ segment_1 ++ (0x00 ∷ 0x00 ∷ 0x00 ∷ 0x01 ∷ 0x02 ∷ 0x01 ∷ 0xD0 ∷ 0x0C ∷ 0x5E ∷ 0x4C ∷ 0x24 ∷ 0x80 ∷ []) ++ (0x00 ∷ 0x00 ∷ 0x00 ∷ 0x01 ∷ 0x02 ∷ 0x01 ∷ 0x77 ∷ 0x08 ∷ 0xB8 ∷ [])) ∷
     -- the hash of the picture before, between two segments
     (sets_40x40_segments ++ segment_0 ++ segment_1 ++ (0x00 ∷ 0x00 ∷ 0x00 ∷ 0x01 ∷ 0x02 ∷ 0x01 ∷ 0xD0 ∷ 0x0C ∷ 0x5E ∷ 0x4C ∷ 0x24 ∷ 0x80 ∷ []) ++ (0x00 ∷ 0x00 ∷ 0x00 ∷ 0x01 ∷ 0x50 ∷ 0x01 ∷ 0x84 ∷ 0x31 ∷ 0x00 ∷ 0x71 ∷ 0x8C ∷ 0x52 ∷ 0xA3 ∷ 0xA4 ∷ 0x9E ∷ 0xFD ∷ 0xDB ∷ 0x01 ∷ 0x1C ∷ 0x2B ∷ 0x58 ∷ 0xDE ∷ 0x18 ∷ 0x56 ∷ 0x56 ∷ 0x71 ∷ 0x8C ∷ 0x52 ∷ 0xA3 ∷ 0xA4 ∷ 0x9E ∷ 0xFD ∷ 0xDB ∷ 0x01 ∷ 0x1C ∷ 0x2B ∷ 0x58 ∷ 0xDE ∷ 0x18 ∷ 0x56 ∷ 0x56 ∷ 0x71 ∷ 0x8C ∷ 0x52 ∷ 0xA3 ∷ 0xA4 ∷ 0x9E ∷ 0xFD ∷ 0xDB ∷ 0x01 ∷ 0x1C ∷ 0x2B ∷ 0x58 ∷ 0xDE ∷ 0x18 ∷ 0x56 ∷ 0x56 ∷ 0x80 ∷ []) ++ (0x00 ∷ 0x00 ∷ 0x00 ∷ 0x01 ∷ 0x02 ∷ 0x01 ∷ 0x76 ∷ 0x08 ∷ 0xB8 ∷ [])) ∷ []
 
-segment_orders_read : map (λ stream. counted (decode stream)) segment_orders ≡ Ok (size_of 40 40, 2) ∷ Err 5 ∷ Err 6 ∷ []
+segment_orders_read : map (λ stream. counted (decode stream)) segment_orders ≡ Ok (size_of 40 40, 2) ∷ Err 5 ∷ Err 6 ∷ Err 6 ∷ []
 unfolding digits_up_to u value_after read_u read_ue_after read_alignment start lps_range next row_start start_codes slice_step segment_step hash_step step read_units decode engine_start doublings renormalised context_read bypass_read terminate_read aligned samples is_done read_fields hash_of_planes candidates mode_read vector_before merge predictors has_source difference_read whole_part vector_read moved_samples block_of rebuild slice_row_read segment_row_read row_of_bytes rows_read coding_unit_read ctu_read unescape_after payload forbidden next_start units_within units profile_tier_level vps_front vps_back sps_formats sps_front size_fields sps_back read_size read_params coding_order neighbours is_filtered references angle inverse_angle predict stored_picture crop scan scan_kind last_context sub_block_context sig_context greater1_context greater2_context cbf in_rows residual_read cut_after substreams head_front head_middle dependent_fields read_offsets read_head read_segment_head split_context skip_context candidates_at block_words rounds compress hash_after digest_bytes md5
 segment_orders_read = refl
 
@@ -260,6 +262,11 @@ four_sets = refl
 samples_end : read_bytes 1 [] ≡ None
 unfolding read_u value_after
 samples_end = refl
+
+-- an ivlOffset of 510
+offset_510 : engine_start [] (replicate 8 true ++ false ∷ []) ≡ None
+unfolding engine_start
+offset_510 = refl
 
 -- no order count follows where no picture is, none can be referred to, and no hash is of it
 no_order_before : next_order false None ≡ None
