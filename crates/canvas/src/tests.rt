@@ -122,12 +122,8 @@ fn draw(canvas: &mut Canvas, unit: Unit) -> bool
     requires { canvas.old.last.size ≡ record { w = 40; h = 24 } }
     ensures { canvas.new.last.size ≡ record { w = 40; h = 24 } }
 {
-    let Unit {
-        x,
-        y,
-        log2,
-        content,
-    } = unit;
+    let Unit { block, content } = unit;
+    let CodingBlock { x, y, log2 } = block;
     if log2 < 3 || log2 > 5 || x > 40 || y > 24 {
         return false;
     }
@@ -136,33 +132,36 @@ fn draw(canvas: &mut Canvas, unit: Unit) -> bool
         return false;
     }
     match content {
-        Content::Samples(seed) => draw_samples(canvas, x, y, log2, seed),
+        Content::Samples(seed) => draw_samples(canvas, block, seed),
         Content::Levels(mode, seeds) => {
             if mode >= 35 {
                 return false;
             }
-            draw_levels(canvas, x, y, log2, mode, seeds);
+            draw_levels(canvas, block, mode, seeds);
         }
         Content::Copied(across, down) => {
             let vector = Vector { x: across, y: down };
-            if !has_source(canvas.last().size(), x, y, log2, vector) {
+            if !has_source(canvas.last().size(), block, vector) {
                 return false;
             }
-            canvas.copied(x, y, log2, vector);
+            canvas.copied(block, vector);
         }
         Content::Moved(across, down) => {
             let vector = Vector { x: across, y: down };
-            if !has_source(canvas.last().size(), x, y, log2, vector) {
+            if !has_source(canvas.last().size(), block, vector) {
                 return false;
             }
-            canvas.moved(x, y, log2, vector);
+            canvas.moved(block, vector);
         }
     }
     true
 }
 
-fn placed(block: CodingBlock, content: Content) -> Unit {
-    Unit { block, content }
+fn placed(x: u32, y: u32, log2: u32, content: Content) -> Unit {
+    Unit {
+        block: CodingBlock { x, y, log2 },
+        content,
+    }
 }
 
 // Draws a picture, or gives false.

@@ -2,6 +2,7 @@
 ghost use Rattle.std.specs.Prelude.{◌≡◌, ◌≤◌, ◌^◌, IfOk};
 
 use super::{MotionGrid, Vector};
+use h265_model::CodingBlock;
 use px_plane::Size;
 use std::alloc::Global;
 use std::test::Fail;
@@ -74,16 +75,11 @@ const UNITS: [Told; 30] = [
 ];
 
 // Sets a unit, and gives the merge vector and the predictors that were told before, or `None` where it doesn't lie in the picture.
-fn set(
-    grid: &mut MotionGrid,
-    x: u32,
-    y: u32,
-    log2: u32,
-    vector: Option<Vector>,
-) -> Option<[Vector; 3]>
+fn set(grid: &mut MotionGrid, block: CodingBlock, vector: Option<Vector>) -> Option<[Vector; 3]>
     requires { grid.old.size ≡ record { w = 70; h = 40 } }
     ensures { grid.new.size ≡ record { w = 70; h = 40 } }
 {
+    let CodingBlock { x, y, log2 } = block;
     if log2 < 3 || log2 > 5 || x > 64 || y > 32 {
         return None;
     }
@@ -91,9 +87,9 @@ fn set(
     if x % n != 0 || y % n != 0 || x + n > 72 || y + n > 40 {
         return None;
     }
-    let merge = grid.merge(x, y, log2);
-    let (first, second) = grid.predictors(x, y, log2);
-    grid.set(x, y, log2, vector);
+    let merge = grid.merge(block);
+    let (first, second) = grid.predictors(block);
+    grid.set(block, vector);
     Some([merge, first, second])
 }
 
@@ -101,14 +97,18 @@ fn set(
 fn neighbours_tell(rt: HostRuntime) -> Result<(), Fail> {
     let mut grid = empty(rt.alloc())?;
     for (x, y, log2, vector, told) in UNITS {
-        let [merge, first, second] = set(&mut grid, x, y, log2, vector_of(vector)).ok_or(
-            "a place",
-        )?;
+        let block = CodingBlock { x, y, log2 };
+        let [merge, first, second] = set(&mut grid, block, vector_of(vector)).ok_or("a place")?;
         assert_eq!(rt; parts(merge), (told[0], told[1]), "merge at {x}, {y}");
         assert_eq!(rt; parts(first), (told[2], told[3]), "first at {x}, {y}");
         assert_eq!(rt; parts(second), (told[4], told[5]), "second at {x}, {y}");
     }
     grid.clear();
-    assert_eq!(rt; parts(grid.merge(8, 8, 3)), (0, 0), "cleared");
+    let block = CodingBlock {
+        x: 8,
+        y: 8,
+        log2: 3,
+    };
+    assert_eq!(rt; parts(grid.merge(block)), (0, 0), "cleared");
     Ok(())
 }
