@@ -1,3 +1,4 @@
 pub mod EntryPoints
 pub mod EscapeLengths
 pub mod Pieces
+pub mod SegmentUnits

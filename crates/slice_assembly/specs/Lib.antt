@@ -1,1 +1,2 @@
 pub mod Substreams
+pub mod Segments

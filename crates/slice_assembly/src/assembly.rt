@@ -45,7 +45,7 @@ pub fn assemble(alloc: Global, idr: bool, poc: u32, rows: &[Vec<u8>]) -> Result<
 }
 
 // nal_unit_type is IDR_N_LP or TRAIL_R, in layer 0 and the lowest sub-layer (7.3.1.2, 7.4.2.2).
-fn header(idr: bool) -> [u8; 2]
+pub(crate) fn header(idr: bool) -> [u8; 2]
     ensures { result ≡ nal_header idr }
 {
     if idr { [0x28, 0x01] } else { [0x02, 0x01] }

@@ -3,7 +3,7 @@ ghost use Rattle.std.specs.Prelude.{IsTrue, ◌<◌, ◌^◌, length};
 ghost use Rattle.std.specs.List.{All};
 ghost use Rattle.slice_assembly.specs.Substreams.{IsSubstream};
 
-use crate::assemble;
+use crate::{assemble, assemble_segments};
 use h265_model::NoMemory;
 use std::alloc::Global;
 use std::test::Fail;
@@ -53,6 +53,51 @@ fn assembles_small_rows(rt: HostRuntime) -> Result<(), Fail> {
         assert!(rt; are_substreams(&rows));
         let piece = assemble(rt.alloc(), idr, poc, &rows)?;
         assert_eq!(rt; piece.as_slice(), want);
+    }
+    Ok(())
+}
+
+// IDR, POC bits, how many coding tree units a row has, rows and the pieces
+const SEGMENTS: [(bool, u32, u32, &[&[u8]], &[u8]); 3] = [
+    (
+        false,
+        1,
+        2,
+        &[&[0x62, 0xF0]],
+        &[0, 0, 0, 1, 2, 1, 0xD0, 0x0C, 0x5E, 0x62, 0xF0],
+    ),
+    (
+        true,
+        0,
+        2,
+        &[&[0x46, 0xC0, 0, 0, 3, 0x80], &[0, 0, 0xFE, 0x80], &[0x80]],
+        &[
+            0, 0, 0, 1, 0x28, 1, 0xAF, 0x80, 0x46, 0xC0, 0, 0, 3, 3, 0x80, 0, 0, 0, 1, 0x28, 1,
+            0x35, 0x80, 0, 0, 0xFE, 0x80, 0, 0, 0, 1, 0x28, 1, 0x39, 0x80, 0x80,
+        ],
+    ),
+    (
+        false,
+        200,
+        3,
+        &[&[0, 0, 1, 0x80], &[0, 0, 0, 0, 3, 0x62, 0xF0]],
+        &[
+            0, 0, 0, 1, 2, 1, 0xD6, 0x44, 0x5E, 0, 0, 3, 1, 0x80, 0, 0, 0, 1, 2, 1, 0x6F, 0, 0, 3,
+            0, 0, 3, 3, 0x62, 0xF0,
+        ],
+    ),
+];
+
+#[test]
+fn assembles_segments(rt: HostRuntime) -> Result<(), Fail> {
+    for (idr, poc, across, list, want) in SEGMENTS {
+        let mut rows = Vec::new(rt.alloc());
+        for row in list {
+            rows.push(row.to_vec(rt.alloc())?)?;
+        }
+        assert!(rt; poc < 256 && !(idr && poc != 0) && across > 0 && across < 4 && rows.len() < 4);
+        let pieces = assemble_segments(rt.alloc(), idr, poc, across, &rows)?;
+        assert_eq!(rt; pieces.as_slice(), want);
     }
     Ok(())
 }
