@@ -1,5 +1,5 @@
 -- The picture before the last one, and the last one, which its job makes of it.
-use Rattle.std.proofs.Common.{◌≡◌, refl, sym, ◌∙◌, ap, subst, ℕ, ◌≤◌, ◌+◌, List, Bool, true, false, length}
+use Rattle.std.proofs.Common.{◌≡◌, refl, sym, ◌∙◌, ap, subst, ℕ, ◌≤◌, ◌+◌, List, [], Bool, true, false, length}
 use Rattle.std.specs.Prelude.{Option, Some, None, IfSome, slice_index_or}
 use Rattle.std.specs.Arc.{arc_value}
 use Rattle.std.proofs.lemmas.Bool.{both_ways}
@@ -8,11 +8,12 @@ use Rattle.h265_model.specs.declared.job.Job.{Job}
 use Rattle.h265_model.specs.Plain.{Size}
 use Rattle.h265_model.specs.Tiles.{tile_count}
 use Rattle.h265_model.specs.Raster.{planes}
-use Rattle.px_plane.specs.Planes.{Planes, planes_of, IsPicture, Stores}
-use Rattle.px_plane.specs.Tiles.{IsJobOf, laid}
+use Rattle.px_plane.specs.Planes.{Planes, planes_of, picture_of, IsPicture, Stores}
+use Rattle.px_plane.specs.Tiles.{IsJobOf, laid_first, laid}
 use Rattle.px_plane.proofs.Shown.{planes_from_stores, stores_from_planes}
 use Rattle.picture_encoder.specs.declared.before.Before.{Before}
-use Rattle.picture_encoder.specs.Coded.{IsLaid, IsWhole, last_or_black}
+use Rattle.h265_model.specs.declared.extra.Extra.{Extra}
+use Rattle.picture_encoder.specs.Coded.{IsLaid, IsWhole, after_slice, last_or_black}
 use Rattle.picture_encoder.specs.Planning.{AreFlagged, IsKept, IsKeptBut}
 use Rattle.picture_encoder.proofs.Following.{kept_but}
 
@@ -37,6 +38,12 @@ same_planes p q size e =
 pub laid_once : (old : Planes) (job : Job) (p q : Planes) → IsLaid old job p → IsLaid old job q → p ≡ q
 laid_once old job p q f g = same_planes p q (f.size ∙ sym g.size) (f.planes ∙ sym g.planes)
 
+-- a job that lists no tile leaves a picture as it is
+pub laid_same : (old now : Planes) (job : Job) → IsPicture old → length job.tiles ≡ 0 → IsLaid old job now → now ≡ old
+laid_same old now job whole none made =
+    let same : Stores old (laid old job) = record { each = λ c x y hc hx hy. ap (λ (n : ℕ). laid_first old job n c x y) (sym none) } in
+    laid_once old job now old made (is_laid old old job whole refl same)
+
 -- outside the listed tiles it is the one before
 pub kept_laid : (old new : Planes) (job : Job) → IsLaid old job new → IsKeptBut job.tiles old new
 kept_laid old new job f = kept_but old new job f.size (stores_from_planes new (laid old job) (f.planes ∙ ap (λ (s : Size). planes s (laid old job)) (sym f.size)))
@@ -53,11 +60,11 @@ last_sized size None sized = refl
 last_sized size (Some last) sized = sized
 
 -- what an encoder keeps after one picture more
-pub one_kept : (size : Size) (effort count : ℕ) (last : Option Planes) (before : Option Before) (job : Job) (now : Planes) → effort ≤ 2 → IfSome last (λ p. p.size ≡ size)
+pub one_kept : (size : Size) (effort : ℕ) (extra : Extra) (count : ℕ) (last : Option Planes) (before : Option Before) (job : Job) (now : Planes) (after : List ℕ) → after ≡ after_slice extra now → effort ≤ 2 → IfSome last (λ p. p.size ≡ size)
     → IsJobOf size job → IsLaid (last_or_black size last) job now → IfSome before (λ b. last ≡ Some (arc_value b.picture)) → IfSome before (λ b. b.job ≡ job)
-    → IsWhole size effort (count + 1) (Some now) before
-one_kept size effort count last None job now low sized fits made picture same = record { low = low; sized = made.size ∙ last_sized size last sized; none = λ none. absurd (both_ways true none refl); again = tt }
-one_kept size effort count last (Some b) job now low sized fits made picture same =
+    → IsWhole size effort extra (count + 1) (Some now) before (Some after)
+one_kept size effort extra count last None job now after follows low sized fits made picture same = record { low = low; sized = made.size ∙ last_sized size last sized; none = λ none. absurd (both_ways true none refl); again = tt; follows = follows }
+one_kept size effort extra count last (Some b) job now after follows low sized fits made picture same =
     let is : (last_or_black size last).size ≡ size = last_sized size last sized in
     let old : last_or_black size last ≡ arc_value b.picture = ap (last_or_black size) picture in
     record {
@@ -68,4 +75,13 @@ one_kept size effort count last (Some b) job now low sized fits made picture sam
         fits = subst (λ (s : Size). IsJobOf s b.job) (sym (ap (λ (p : Planes). p.size) (sym old) ∙ is)) (subst (IsJobOf size) (sym same) fits);
         makes = subst (λ (p : Planes). IsLaid p b.job now) old (subst (λ (j : Job). IsLaid (last_or_black size last) j now) (sym same) made);
       };
+      follows = follows;
     }
+
+-- what stands after a slice is the same again where a job lists no tile
+pub after_same : (size : Size) (extra : Extra) (last : Option Planes) (after : Option (List ℕ)) (p : Planes) (bytes : List ℕ) (job : Job) (now : Planes) → last ≡ Some p → after ≡ Some bytes
+    → IfSome after (λ b. b ≡ after_slice extra (last_or_black size last)) → IsPicture p → length job.tiles ≡ 0 → IsLaid (last_or_black size last) job now → bytes ≡ after_slice extra now
+after_same size extra last after p bytes job now is_last is_after follows whole none made =
+    let kept : bytes ≡ after_slice extra (last_or_black size last) = subst (λ (o : Option (List ℕ)). IfSome o (λ b. b ≡ after_slice extra (last_or_black size last))) is_after follows in
+    let here : last_or_black size last ≡ p = ap (last_or_black size) is_last in
+    kept ∙ (ap (after_slice extra) here ∙ ap (after_slice extra) (sym (laid_same p now job whole none (subst (λ (q : Planes). IsLaid q job now) here made))))

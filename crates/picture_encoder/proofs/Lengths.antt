@@ -10,7 +10,14 @@ use Rattle.h265_model.specs.NalUnits.{escape, start_code, stream_bytes}
 use Rattle.h265_model.specs.ParamSets.{param_units, vps_front, vps_back, vps_fields, profile_tier_level, sps_formats, sps_front, sps_back, sps_fields, size_fields, window_fields, is_padded, pps_fields}
 use Rattle.h265_model.specs.SliceHead.{Head, head_bits, head_fields, head_front, head_middle, poc_fields, entry_points}
 use Rattle.h265_model.specs.Stream.{slice_piece, nal_header, but_last}
+use Rattle.h265_model.specs.Hash.{hash_of_planes}
+use Rattle.h265_model.specs.declared.extra.Extra.{Extra}
+use Rattle.h265_model.specs.declared.extra.Extra.TheVariants.{Plain, Hash, Segments, Moves}
 use Rattle.h265_model.proofs.BitLaws.{length-u}
+use Rattle.md5.specs.Md5.{md5}
+use Rattle.md5.proofs.StandardFacts.{length-md5}
+use Rattle.px_plane.specs.Planes.{Planes, planes_of}
+use Rattle.picture_encoder.specs.Coded.{hash_of, after_slice}
 use Rattle.slice_assembly.specs.Substreams.{IsSubstream}
 use Rattle.slice_assembly.proofs.EscapeLengths.{at_most_doubled, fits}
 
@@ -184,10 +191,10 @@ joined_short f (row ∷ rows) all =
       joined_short f rows (λ k d less. all (suc k) d (omega arith)),
     )
 
-pub piece_short : {X : Type 0} (idr : Bool) (poc : ℕ) (f : X → List ℕ) (rows : List X) → length rows ≤ 128 → All (λ row. IsSubstream (f row)) rows
-    → length (slice_piece idr poc (map (λ row. escape (f row)) rows)) < 2 ^ 40
+pub slice_short : {X : Type 0} (idr : Bool) (poc : ℕ) (f : X → List ℕ) (rows : List X) → length rows ≤ 128 → All (λ row. IsSubstream (f row)) rows
+    → length (slice_piece idr poc (map (λ row. escape (f row)) rows)) + 1024 < 2 ^ 40
 unfolding slice_piece
-piece_short idr poc f rows few all =
+slice_short idr poc f rows few all =
     let rest : List (List ℕ) = map (λ row. escape (f row)) rows in
     let offsets : List ℕ = map length (but_last rest) in
     let head : List ℕ = escape (bytes (head_bits (record { idr = idr; poc = poc; offsets = offsets }))) in
@@ -202,5 +209,30 @@ piece_short idr poc f rows few all =
     let c : length (start_code ++ nal_header idr) ≡ 4 + length (nal_header idr) = length-append start_code (nal_header idr) in
     bound (length rows) (length offsets) (length head) (length (joined rest)) _ few (omega arith) lh lj (omega arith)
   where
-    bound : (n o h j all : ℕ) → n ≤ 128 → o ≤ n → h ≤ 7000 + 64 * o → j ≤ n * 2 ^ 32 → all ≡ 6 + h + j → all < 2 ^ 40
+    bound : (n o h j all : ℕ) → n ≤ 128 → o ≤ n → h ≤ 7000 + 64 * o → j ≤ n * 2 ^ 32 → all ≡ 6 + h + j → all + 1024 < 2 ^ 40
     bound n o h j all hn ho hh hj e = omega arith
+
+-- ---- what stands after a slice
+
+message_long : (g b r : List ℕ) → length (hash_of_planes (g ∷ b ∷ r ∷ [])) ≡ 52
+unfolding hash_of_planes
+message_long g b r =
+    omega (
+      arith,
+      length-append (md5 g ++ (md5 b ++ (md5 r ++ []))) (0x80 ∷ []),
+      length-append (md5 g) (md5 b ++ (md5 r ++ [])),
+      length-append (md5 b) (md5 r ++ []),
+      length-append (md5 r) [],
+      length-md5 g,
+      length-md5 b,
+      length-md5 r,
+    )
+
+hash_short : (p : Planes) → length (hash_of p) ≤ 1024
+hash_short p = omega (arith, at_most_doubled 255 255 (hash_of_planes (planes_of p)), message_long p.g p.b p.r)
+
+pub after_short : (extra : Extra) (p : Planes) → length (after_slice extra p) ≤ 1024
+after_short Plain p = omega arith
+after_short Hash p = hash_short p
+after_short Segments p = omega arith
+after_short Moves p = omega arith

@@ -1,9 +1,13 @@
 -- An encoder, and the pictures that it has coded.
-use Rattle.std.specs.Prelude.{◌≡◌, ◌≤◌, ℕ, List, [], ◌∷◌, length, Option, Some, None, IfSome, IsNone}
+use Rattle.std.specs.Prelude.{◌≡◌, ◌≤◌, ℕ, Bool, true, false, List, [], ◌∷◌, length, Option, Some, None, IfSome, IsNone}
 use Rattle.std.specs.Arc.{arc_value}
 use Rattle.h265_model.specs.declared.job.Job.{Job}
+use Rattle.h265_model.specs.declared.extra.Extra.{Extra}
+use Rattle.h265_model.specs.declared.extra.Extra.TheVariants.{Plain, Hash, Segments, Moves}
 use Rattle.h265_model.specs.Plain.{Size}
 use Rattle.h265_model.specs.Settings.{Settings}
+use Rattle.h265_model.specs.NalUnits.{nal_unit_bytes}
+use Rattle.h265_model.specs.Hash.{hash_header, hash_of_planes}
 use Rattle.h265_model.specs.Tiles.{job_for}
 use Rattle.h265_model.specs.Raster.{Raster, black_raster, coded_picture, planes}
 use Rattle.px_plane.specs.Planes.{Planes, Shows, black, planes_of}
@@ -31,12 +35,29 @@ pub record Makes (b : Before) (now : Planes) : Type 0 where
   pub fits : IsJobOf (arc_value b.picture).size b.job
   pub makes : IsLaid (arc_value b.picture) b.job now
 
+-- what a stream has besides the slices of its pictures, by whether it has their hashes
+abbrev pub extra_of : Bool → Extra
+extra_of true = Hash
+extra_of false = Plain
+
+-- the NAL unit of a picture's hash (7.3.2.4, 7.3.5, D.2.19)
+abbrev pub hash_of : Planes → List ℕ
+hash_of p = nal_unit_bytes (record { header = hash_header; rbsp = hash_of_planes (planes_of p) })
+
+-- the bytes of a picture's piece after its slice
+abbrev pub after_slice : Extra → Planes → List ℕ
+after_slice Plain p = []
+after_slice Hash p = hash_of p
+after_slice Segments p = []
+after_slice Moves p = []
+
 -- what an encoder keeps: the picture that was coded last has its size, and where there is none, none was coded
-pub record IsWhole (size : Size) (effort count : ℕ) (last : Option Planes) (before : Option Before) : Type 0 where
+pub record IsWhole (size : Size) (effort : ℕ) (extra : Extra) (count : ℕ) (last : Option Planes) (before : Option Before) (after : Option (List ℕ)) : Type 0 where
   pub low : effort ≤ 2
   pub sized : IfSome last (λ p. p.size ≡ size)
   pub none : IsNone last → count ≡ 0
   pub again : IfSome before (λ b. Makes b (last_or_black size last))
+  pub follows : IfSome after (λ bytes. bytes ≡ after_slice extra (last_or_black size last))
 
 -- the last of a list, or this where it has none
 abbrev pub last_of : Raster → List Raster → Raster

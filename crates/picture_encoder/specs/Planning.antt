@@ -1,5 +1,5 @@
 -- A picture that is to be coded, and what is coded of it.
-use Rattle.std.specs.Prelude.{◌≡◌, ◌≤◌, ◌<◌, ℕ, ◌*◌, ◌+◌, Bool, true, false, ◌%◌, List, [], ◌∷◌, map, length, slice_index, slice_index_or, Option, Some, None, option_map, is_none, IfSome}
+use Rattle.std.specs.Prelude.{◌≡◌, ◌≤◌, ◌<◌, ℕ, ◌*◌, ◌+◌, Bool, true, false, ◌%◌, List, [], ◌∷◌, ◌++◌, map, length, slice_index, slice_index_or, Option, Some, None, option_map, is_none, IfSome}
 use Rattle.std.specs.Arc.{arc_value}
 use Rattle.std.specs.List.{range_with_len, Contains}
 use Rattle.h265_model.specs.declared.leaf.Leaf.{Leaf}
@@ -15,7 +15,7 @@ use Rattle.px_plane.specs.Planes.{Planes, picture_of}
 use Rattle.block_choice.specs.Plans.{IsSameTree}
 use Rattle.row_coder.specs.Rows.{Row}
 use Rattle.row_coder.specs.Laws.{row_leaves, leaves_above}
-use Rattle.picture_encoder.specs.Coded.{Coded}
+use Rattle.picture_encoder.specs.Coded.{Coded, after_slice}
 use Rattle.picture_encoder.specs.declared.planning.Task.{Task}
 
 -- the picture that a picture may copy from
@@ -120,8 +120,12 @@ codes_of e now =
     let leaves : List (List Leaf) = map (choice (reference_of idr (picture_of e.last)) (picture_of now) now.size e.settings.effort) (below (ctus now.size.w * ctus now.size.h)) in
     map (row_code (slice_kind idr) (leaf_units (slice_kind idr) (source_of now.size (picture_of now))) now.size leaves) (below (ctus now.size.h))
 
--- its piece
-abbrev pub piece_of : Coded → Planes → List ℕ
-piece_of e now =
+-- its slice
+abbrev pub slice_of : Coded → Planes → List ℕ
+slice_of e now =
     slice_piece (is_idr e.settings.key e.count) (order_count e.settings.key e.count % 256)
     (row_codes e.settings (is_idr e.settings.key e.count) (reference_of (is_idr e.settings.key e.count) (picture_of e.last)) (picture_of now))
+
+-- its piece
+abbrev pub piece_of : Coded → Planes → List ℕ
+piece_of e now = slice_of e now ++ after_slice e.settings.extra now

@@ -19,8 +19,8 @@ pub(crate) struct Before {
     pub job: Job,
 }
 
-// A picture is whole: each plane has the coded size.
-fn whole(picture: &Picture)
+/// A picture is whole: each plane has the coded size.
+pub(crate) fn whole(picture: &Picture)
     ensures { IsPicture picture.now }
 {
     let _size = picture.size();

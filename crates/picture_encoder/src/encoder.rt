@@ -1,27 +1,29 @@
 //! The encoder of a recording.
-ghost use Rattle.std.specs.Prelude.{◌≡◌, ◌≤◌, ◌<◌, ◌+◌, ◌-◌, ◌^◌, List, [], ◌∷◌, ◌++◌, false, length, map, option_map, IfSome, IfOk, IsOk, OnOk, OnErr, IsTrue};
+ghost use Rattle.std.specs.Prelude.{◌≡◌, ◌≤◌, ◌<◌, ◌+◌, ◌-◌, ◌^◌, List, [], ◌∷◌, ◌++◌, true, false, length, map, option_map, IfSome, IfOk, IsOk, OnOk, OnErr, IsTrue};
 ghost use Rattle.std.specs.Arc.{arc_value};
 ghost use Rattle.std.specs.List.{All};
 ghost use Rattle.h265_model.specs.Plain.{ctus};
 ghost use Rattle.h265_model.specs.Raster.{Raster};
 ghost use Rattle.h265_model.specs.Stream.{is_idr, pieces};
 ghost use Rattle.h265_model.specs.Settings.{is_size, plain};
+ghost use Rattle.h265_model.specs.declared.extra.Extra.TheVariants.{Hash};
 ghost use Rattle.px_plane.specs.Tiles.{IsJobOf};
-ghost use Rattle.px_plane.specs.Planes.{picture_of, Shows};
-ghost use Rattle.picture_encoder.specs.Coded.{StandsFor, TurnsInto, IsLaid};
+ghost use Rattle.px_plane.specs.Planes.{Planes, picture_of, Shows};
+ghost use Rattle.picture_encoder.specs.Coded.{StandsFor, TurnsInto, IsLaid, after_slice};
 ghost use Rattle.row_coder.specs.Rows.{plan_of};
 ghost use Rattle.row_core.specs.Plans.{HaveWidth, rows_of};
 ghost use Rattle.picture_encoder.specs.Planning.{IsKept, IsKeptBut, IsTask, IsTaskOf, codes_of, piece_of, reference_of};
 
-use crate::before::{Before, lay_over};
+use crate::before::{Before, lay_over, whole};
 use crate::order::{is_idr, order_bits};
-use crate::picture::picture_piece;
+use crate::picture::picture_slice;
 use crate::planning::Task;
 use crate::rows::picture_jobs;
 use crate::tiles::flags_of;
 use gate::Gate;
 use h265_model::NoMemory;
 use param_sets::{Params, write_params};
+use pic_hash::hash_unit;
 use px_plane::{Job, Picture, Size};
 use row_coder::CtuRow;
 use row_workers::{rows_alone, run_rows};
@@ -37,8 +39,15 @@ fn size_fits(size: Size)
     let _width = size.w();
 }
 
+// Whether a job lists no tile.
+fn lists_none(job: &Job) -> bool
+    ensures { result ≡ true → length job.now.tiles ≡ 0 }
+{
+    job.tiles.as_slice().is_empty()
+}
+
 /// Codes the pictures of a recording, one after another: a picture with a number that KEY divides as an IDR picture, and each other one as it differs
-/// from the one before. With KEY 0 only the first is an IDR picture.
+/// from the one before. With KEY 0 only the first is an IDR picture. Where hashes are wanted, the hash of each picture stands after its slice (D.2.19).
 ///
 /// It stands for the list of pictures that it has coded. Contracts see its settings, the number of these pictures, and the last of them.
 #[derive(Drop)]
@@ -47,28 +56,31 @@ pub struct Encoder {
     size: Size,
     effort: u32,
     key: u32,
+    // Whether the hash of each picture stands after its slice.
+    hashed: bool,
     count: u32,
     // The picture that was coded last.
     last: Option<Arc<Picture, Global>>,
     // The one before it, where it is kept.
     before: Option<Before>,
+    // What stands after the slice of the picture that was coded last, where it is kept.
+    after: Option<Vec<u8>>,
 }
 
 impl Model for Encoder {
     ghost use Rattle.std.specs.Prelude.{option_map};
     ghost use Rattle.std.specs.Arc.{arc_value};
-    ghost use Rattle.h265_model.specs.Settings.{plain};
-    ghost use Rattle.picture_encoder.specs.Coded.{Coded, IsWhole, last_or_black};
+    ghost use Rattle.picture_encoder.specs.Coded.{Coded, IsWhole, extra_of, last_or_black};
 
     ghost Value = { Coded };
 
     ghost view = { λ e. record {
-      settings = plain e.size e.effort e.key;
+      settings = record { size = e.size; effort = e.effort; key = e.key; extra = extra_of e.hashed };
       count = e.count;
       last = last_or_black e.size (option_map (λ last. arc_value last) e.last);
     } };
 
-    ghost invariant = { λ e. IsWhole e.size e.effort e.count (option_map (λ last. arc_value last) e.last) e.before };
+    ghost invariant = { λ e. IsWhole e.size e.effort (extra_of e.hashed) e.count (option_map (λ last. arc_value last) e.last) e.before (option_map (λ after. after.items) e.after) };
 }
 
 impl Encoder {
@@ -90,10 +102,24 @@ impl Encoder {
             size,
             effort,
             key,
+            hashed: false,
             count: 0,
             last: None,
             before: None,
+            after: None,
         })
+    }
+
+    /// The same encoder, which writes the hash of each picture after its slice: a suffix SEI message in a NAL unit of its own (7.3.2.4, D.2.19). It has
+    /// coded no picture. Takes no memory.
+    pub fn with_hash(mut self) -> Encoder
+        requires none { StandsFor self [] }
+        ensures settings { result ≡ record self { settings = record self.settings { extra = Hash } } }
+        ensures fresh { StandsFor result [] }
+    {
+        self.hashed = true;
+        self.after = None;
+        self
     }
 
     /// The first piece of the stream: the parameter sets.
@@ -116,7 +142,7 @@ impl Encoder {
     }
 
     /// Lays a job over the picture before, codes the picture that it gives on the caller's thread, and gives its piece of the stream: a start code
-    /// and a NAL unit.
+    /// and a NAL unit, and those of its hash where hashes are wanted.
     ///
     /// The job has the number of the pictures before. Where it lists all tiles in which the new picture differs, the piece is the one that the
     /// definition has for that picture, of any pictures before that the encoder stands for.
@@ -141,8 +167,9 @@ impl Encoder {
         let now = self.picture_after(job)?;
         let jobs = self.jobs(&now, &touched)?;
         let rows = rows_alone(self.alloc, jobs)?;
-        let piece = self.piece(&now, &touched, &rows)?;
-        self.keep(now, job);
+        let after = self.after_slice(&now, job)?;
+        let piece = self.piece(&now, &touched, &rows, &after)?;
+        self.keep(now, job, after);
         Ok(piece)
     }
 
@@ -178,8 +205,9 @@ impl Encoder {
         let now = self.picture_after(job)?;
         let jobs = self.jobs(&now, &touched)?;
         let rows = run_rows(rt, self.alloc, jobs, workers, gate)?;
-        let piece = self.piece(&now, &touched, &rows)?;
-        self.keep(now, job);
+        let after = self.after_slice(&now, job)?;
+        let piece = self.piece(&now, &touched, &rows, &after)?;
+        self.keep(now, job, after);
         Ok(piece)
     }
 
@@ -261,31 +289,65 @@ impl Encoder {
         picture_jobs(self.alloc, &self.task(now, touched))
     }
 
-    // The piece of such a picture, from the bytes of its rows.
+    // What stands after the slice of the last picture, where it is kept and a job leaves the picture as it is.
+    fn after_again(&self, job: &Job) -> Option<&Vec<u8>>
+        ensures { IfSome result (λ after. (now : Planes) → IsLaid self.now.last job.now now → after.now.items ≡ after_slice self.now.settings.extra now) }
+    {
+        let (Some(last), Some(after)) = (&self.last, &self.after) else {
+            return None;
+        };
+        if lists_none(job) {
+            whole(last);
+            return Some(after);
+        }
+        None
+    }
+
+    // What stands after the slice of the picture that a job makes of the last one. No digests are made again of a picture that stays as it is.
+    fn after_slice(&self, now: &Picture, job: &Job) -> Result<Vec<u8>, NoMemory>
+        requires { IsLaid self.now.last job.now now.now }
+        ensures { IfOk result (λ after. after.items ≡ after_slice self.now.settings.extra now.now) }
+    {
+        if !self.hashed {
+            return Ok(Vec::new(self.alloc));
+        }
+        match self.after_again(job) {
+            Some(after) => Ok(after.clone()?),
+            None => hash_unit(self.alloc, now),
+        }
+    }
+
+    // The piece of such a picture, from the bytes of its rows and those after its slice.
     fn piece(
         &self,
         now: &Arc<Picture, Global>,
         touched: &[bool],
         rows: &[Vec<u8>],
+        after: &[u8],
     ) -> Result<Vec<u8>, NoMemory>
         requires kept { IsKept touched.now self.now.last (arc_value now.now) }
         requires rows { map (λ row. row.items) rows.now ≡ codes_of self.now (arc_value now.now) }
+        requires after { after.now ≡ after_slice self.now.settings.extra (arc_value now.now) }
         ensures piece { IfOk result (λ piece. piece.items ≡ piece_of self.now (arc_value now.now)) }
         ensures short { IfOk result (λ piece. length piece.items < 2 ^ 40) }
     {
         let order = order_bits(self.key, self.count);
-        picture_piece(self.alloc, &self.task(now, touched), order, rows)
+        let mut piece = picture_slice(self.alloc, &self.task(now, touched), order, rows)?;
+        piece.extend_from_slice(after)?;
+        Ok(piece)
     }
 
     // Takes the picture that a job made of the last one for the last one.
-    fn keep(&mut self, now: Arc<Picture, Global>, job: &Job)
+    fn keep(&mut self, now: Arc<Picture, Global>, job: &Job, after: Vec<u8>)
         requires job { IsJobOf self.old.settings.size job.now }
         requires laid { IsLaid self.old.last job.now (arc_value now) }
         requires few { self.old.count < 2 ^ 32 - 1 }
+        requires after { after.items ≡ after_slice self.old.settings.extra (arc_value now) }
         ensures { self.new ≡ record self.old { count = self.old.count + 1; last = arc_value now } }
     {
         let last = self.last.replace(now);
         self.before = Before::of(self.alloc, last, job);
+        self.after = Some(after);
         self.count += 1;
     }
 }

@@ -1,5 +1,5 @@
-//! The piece of one picture.
-ghost use Rattle.std.specs.Prelude.{◌≡◌, ◌<◌, ◌^◌, true, length, map, IfOk};
+//! The slice of one picture.
+ghost use Rattle.std.specs.Prelude.{◌≡◌, ◌<◌, ◌+◌, ◌^◌, true, length, map, IfOk};
 ghost use Rattle.h265_model.specs.Plain.{ctus, below};
 ghost use Rattle.h265_model.specs.Stream.{slice_piece};
 ghost use Rattle.picture_encoder.specs.Planning.{is_idr_task, size_of_task, code_of_task, rows_of_task};
@@ -10,8 +10,8 @@ use h265_model::NoMemory;
 use slice_assembly::assemble;
 use std::alloc::Global;
 
-/// The piece of a picture from the bytes of its rows: a start code and a NAL unit (7.3.1). `order` is the low 8 bits of its picture order count.
-pub(crate) fn picture_piece(
+/// The slice of a picture from the bytes of its rows: a start code and a NAL unit (7.3.1). `order` is the low 8 bits of its picture order count.
+pub(crate) fn picture_slice(
     alloc: Global,
     task: &Task,
     order: u32,
@@ -20,10 +20,10 @@ pub(crate) fn picture_piece(
     requires rows { map (λ row. row.items) rows.now ≡ map (code_of_task task.now) (below (ctus (size_of_task task.now).h)) }
     requires order { order < 256 }
     requires idr { is_idr_task task.now ≡ true → order ≡ 0 }
-    ensures piece { IfOk result (λ piece. piece.items ≡ slice_piece (is_idr_task task.now) order (rows_of_task task.now)) }
-    ensures short { IfOk result (λ piece. length piece.items < 2 ^ 40) }
+    ensures slice { IfOk result (λ slice. slice.items ≡ slice_piece (is_idr_task task.now) order (rows_of_task task.now)) }
+    ensures short { IfOk result (λ slice. length slice.items + 1024 < 2 ^ 40) }
 {
     rows_fit(task, rows);
-    let piece = assemble(alloc, task.is_idr(), order, rows)?;
-    Ok(piece)
+    let slice = assemble(alloc, task.is_idr(), order, rows)?;
+    Ok(slice)
 }
