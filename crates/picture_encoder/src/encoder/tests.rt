@@ -306,3 +306,28 @@ fn pictures_of_small_desktops(rt: HostRuntime) -> Result<(), Fail> {
     }
     Ok(())
 }
+
+// Pictures of 32 by 32 with their hashes, of which the second is the first one again: for each the tiles of its job, how long its piece is, and its
+// digest.
+const HASHED: [(&'static [(u8, u8)], (usize, u32)); 3] = [
+    (&[], (4677, 500459475)),
+    (&[], (69, 3065216387)),
+    (&[(0, 3)], (3143, 1543607406)),
+];
+
+#[test]
+fn pictures_with_hashes(rt: HostRuntime) -> Result<(), Fail> {
+    let size = Size::new(32, 32).ok_or("size")?;
+    for workers in WORKERS {
+        assert!(rt; workers <= 64);
+        let mut encoder = Encoder::new(rt.alloc(), size, 0, 0)?.with_hash();
+        for number in 0..3u32 {
+            let (list, want) = HASHED[number as usize];
+            let job = job(rt.alloc(), size, number, list)?;
+            assert!(rt; is_next(&encoder, &job));
+            let piece = next_piece(&rt, &mut encoder, &job, workers)?;
+            assert_eq!(rt; mark(&piece), want, "picture {number}, {workers} workers");
+        }
+    }
+    Ok(())
+}
