@@ -273,7 +273,6 @@ module _ (x : Files) (names : List (Bor (List ℕ))) (file lines cuts : ℕ) (sc
   all_refused status.SinkFault less so_far h a = absurd h
   all_refused status.ReportFault less so_far h a = absurd h
   all_refused (status.BadStream at) less so_far h a = absurd h
-  all_refused (status.NotBuilt form) less so_far h a = absurd h
 
   -- One more is accepted.
   pub more_accepted : (script : List Line) → file < length names → IsSoFar → scripts_after file lines cuts (file_at x (name_at names file) ∷ []) ≡ Ok (script ∷ []) →

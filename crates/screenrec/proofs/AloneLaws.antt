@@ -168,7 +168,6 @@ module _ (words : SerialWords) where
   leaves_whole script order written status.SinkFault x y kind within spelled own s = absurd kind
   leaves_whole script order written (status.TooLarge f) x y kind within spelled own s = absurd kind
   leaves_whole script order written (status.BadStream at) x y kind within spelled own s = absurd kind
-  leaves_whole script order written (status.NotBuilt form) x y kind within spelled own s = absurd kind
 
   pub whole_files : (a b : Option Files) (script : List Line) (order : List Entry) (written : ℕ) (answer : Status) → IsOfReport answer → AreWithin words → AreSpellable script →
       order ≡ own_order (script ∷ []) → WhereTold a b (λ before after. IsStored words.settings words.out script before after written) →

@@ -6,3 +6,6 @@ pub mod RunLaws
 pub mod DemoLaws
 pub mod FileParts
 pub mod TogetherLaws
+pub mod ReadingLaws
+pub mod FrameLaws
+pub mod DecodeLaws

@@ -33,7 +33,6 @@ leaves_refused words status.Usage order written x y h p q e a = absurd h
 leaves_refused words status.SinkFault order written x y h p q e a = absurd h
 leaves_refused words status.ReportFault order written x y h p q e a = absurd h
 leaves_refused words (status.BadStream at) order written x y h p q e a = absurd h
-leaves_refused words (status.NotBuilt form) order written x y h p q e a = absurd h
 
 pub files_refused : (a b : Option Files) (words : SerialWords) (s : Status) (order : List Entry) (written : ℕ) → IsOfTheFile 0 s → order ≡ [] → written ≡ 0 →
     WhereTold a b (λ before after. (after ≡ before) × Accepts 0 0 0 (file_at before words.file) (Err s)) →

@@ -238,7 +238,6 @@ module _ (words : RecordWords) (scripts : List (List Line)) (order : List Entry)
   reported written status.SinkFault kind within spelled is s = absurd kind
   reported written (status.TooLarge f) kind within spelled is s = absurd kind
   reported written (status.BadStream at) kind within spelled is s = absurd kind
-  reported written (status.NotBuilt form) kind within spelled is s = absurd kind
 
   leaves : (lost : Bool) (answer : RecordEnd) (s : Status) → AreWithin words → All AreSpellable scripts → IsOrder scripts order lost answer → Reported (recorded_status lost answer) s →
       Stands answer → LeavesScripts words scripts x z order (written_of answer) s

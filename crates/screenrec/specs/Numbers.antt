@@ -14,4 +14,3 @@ status_number status.ReportFault = 6
 status_number status.NoMemory = 7
 status_number (status.TooLarge file) = 8
 status_number (status.BadStream at) = 9
-status_number (status.NotBuilt form) = 10

@@ -1,8 +1,8 @@
--- What the words `serial` and `record` promise. The two differ in the order of the clients' lines alone.
+-- What the words `serial` and `record` promise, and what a call does for each row of words. The two differ in the order of the clients' lines alone.
 use Rattle.std.specs.Prelude.{◌≡◌, ◌≢◌, ◌⊎◌, ℕ, ◌<◌, ◌++◌, List, [], ◌∷◌, length, take, Option, Some, None, Result, Ok, Err, IsOk}
 use Rattle.recorder_model.specs.declared.entry.Entry.{Entry}
 use Rattle.recorder_model.specs.declared.line.Line.{Line}
-use Rattle.recorder_model.specs.Words.{SerialWords, RecordWords, Row, Record, Serial, Demo, Decode}
+use Rattle.recorder_model.specs.Words.{SerialWords, RecordWords, DecodeWords, Row, Record, Serial, Demo, Decode}
 use Rattle.h265_model.specs.Settings.{Settings}
 use Rattle.recorder_model.specs.Painting.{pictures}
 use Rattle.recorder_model.specs.Histories.{IsLawful, Merges, own_order}
@@ -10,10 +10,9 @@ use Rattle.recorder_model.specs.Files.{Files, IsPrefix, file_at, Rose}
 use Rattle.recorder_model.specs.Headline.{Refusal, TooLarge, BadPaint, Limit, scripts_of, contents, IsPlayed, IsRecorded, IsUntouched, IsCutShort, report_of}
 use Rattle.screenrec.specs.declared.outcome.Status.{Status}
 use Rattle.screenrec.specs.declared.outcome.Status.TheVariants as status
-use Rattle.screenrec.specs.declared.outcome.Form.{Form}
-use Rattle.screenrec.specs.declared.outcome.Form.TheVariants.{Command}
 use Rattle.screenrec.specs.Answers.{Counts, NoneRose}
 use Rattle.screenrec.specs.Demo.{IsOfDemo, LeavesDemo, ReportsDemo}
+use Rattle.screenrec.specs.Decoding.{IsOfDecoding, LeavesStream, ReportsStream, IsCompleteDecoding}
 
 -- ---- the order of a recording
 
@@ -107,16 +106,15 @@ module _ (task : Task) (before after : Files) (order : List Entry) (written : �
       IsUntouched order before after written ⊎ IsBroken (IsPlayedInPart task.playing task.out after written)
   LeavesTask (status.TooLarge file) = IsRefused (TooLarge file)
   LeavesTask (status.BadStream at) = ⊥
-  LeavesTask (status.NotBuilt form) = ⊥
 
 -- ---- what a call does for its words
 
--- nothing, as they are in no row of its table; nothing yet, as the command isn't built; a recording; or a demo of a number
+-- nothing, as they are in no row of its table; a recording; a demo of a number; or a stream is decoded
 pub data Service : Type 0 where
   NoRow : Service
-  NotYet : Form → Service
   Does : Task → Service
   Plays : ℕ → Service
+  Reads : DecodeWords → Service
 
 abbrev pub serial_service : Option Row → Service
 serial_service (Some (Serial words)) = Does (serial_task words)
@@ -126,25 +124,28 @@ abbrev pub demo_service : Option Row → Service
 demo_service (Some (Demo number)) = Plays number
 demo_service _ = NoRow
 
+abbrev pub decode_service : Option Row → Service
+decode_service (Some (Decode words)) = Reads words
+decode_service _ = NoRow
+
 abbrev pub run_service : Option Row → Service
 run_service None = NoRow
 run_service (Some (Serial words)) = Does (serial_task words)
 run_service (Some (Record words)) = Does (record_task words)
 run_service (Some (Demo number)) = Plays number
-run_service (Some (Decode words)) = NotYet Command
+run_service (Some (Decode words)) = Reads words
 
--- what isn't answered for words that are served
+-- what isn't answered for words of a recording
 pub record IsServed (answer : Status) : Type 0 where
   pub in_row : answer ≢ status.Usage
-  pub built : (form : Form) → answer ≢ status.NotBuilt form
   pub no_stream : (at : ℕ) → answer ≢ status.BadStream at
 
--- Usage comes exactly where the words are in no row, and NotBuilt exactly where the command isn't built, but for want of memory.
+-- Usage comes exactly where the words are in no row, but for want of memory.
 abbrev pub Answers : Service → Status → Type 0
 Answers NoRow answer = (answer ≡ status.Usage) ⊎ (answer ≡ status.NoMemory)
-Answers (NotYet form) answer = (answer ≡ status.NotBuilt form) ⊎ (answer ≡ status.NoMemory)
 Answers (Does task) answer = IsServed answer
 Answers (Plays number) answer = IsOfDemo answer
+Answers (Reads words) answer = IsOfDecoding answer
 
 -- ---- what needs no file to be told
 
@@ -163,14 +164,13 @@ RefusesTask status.ReportFault order written = Unit {0}
 RefusesTask status.NoMemory order written = Unit {0}
 RefusesTask (status.TooLarge file) order written = IsEmpty order written
 RefusesTask (status.BadStream at) order written = IsEmpty order written
-RefusesTask (status.NotBuilt form) order written = IsEmpty order written
 
--- nor is there an order where nothing is done for the words. The order and the length of a demo are those of its number
+-- nor is there an order where nothing is done for the words, or a stream is decoded. The order and the length of a demo are those of its number
 abbrev pub RefusesEmpty : Service → Status → List Entry → ℕ → Type 0
 RefusesEmpty NoRow answer order written = IsEmpty order written
-RefusesEmpty (NotYet form) answer order written = IsEmpty order written
 RefusesEmpty (Does task) answer order written = RefusesTask answer order written
 RefusesEmpty (Plays number) answer order written = LeavesDemo number answer order written
+RefusesEmpty (Reads words) answer order written = (order ≡ []) × RefusesTask answer order written
 
 -- a file that an answer names is one of the words
 abbrev pub IsOfFile : List (List ℕ) → Status → Type 0
@@ -182,17 +182,17 @@ IsOfFile files _ = Unit {0}
 abbrev pub NamesFile : Service → Status → Type 0
 NamesFile (Does task) answer = IsOfFile task.files answer
 NamesFile NoRow answer = Unit {0}
-NamesFile (NotYet form) answer = Unit {0}
 NamesFile (Plays number) answer = Unit {0}
+NamesFile (Reads words) answer = IsOfFile (words.input ∷ []) answer
 
 -- ---- what is told of files and report
 
 -- Where nothing is done, everything stays as it was.
 abbrev pub Leaves : Service → Files → Files → Status → List Entry → ℕ → Type 0
 Leaves NoRow before after answer order written = IsUntouched order before after written
-Leaves (NotYet form) before after answer order written = IsUntouched order before after written
 Leaves (Does task) before after answer order written = LeavesTask task before after order written answer
 Leaves (Plays number) before after answer order written = after ≡ before
+Leaves (Reads words) before after answer order written = LeavesStream (file_at before words.input) words.out before after order written answer
 
 -- With Ok the report grew by its text, and with ReportFault by a part of it.
 abbrev pub ReportsTask : Task → Files → List ℕ → List ℕ → Status → List Entry → ℕ → Type 0
@@ -205,17 +205,17 @@ ReportsTask task before was now _ order written = now ≡ was
 
 abbrev pub Reports : Service → Files → List ℕ → List ℕ → Status → List Entry → ℕ → Type 0
 Reports NoRow before was now answer order written = now ≡ was
-Reports (NotYet form) before was now answer order written = now ≡ was
 Reports (Does task) before was now answer order written = ReportsTask task before was now answer order written
 Reports (Plays number) before was now answer order written = ReportsDemo number was now answer order written
+Reports (Reads words) before was now answer order written = ReportsStream (file_at before words.input) written was now answer
 
--- Completeness: where the files are accepted and no count rose, the answer is Ok, but for want of memory.
+-- Completeness: where the files are accepted and no count rose, the answer is Ok, but for want of memory. Of a stream each refusal is complete too.
 abbrev pub IsComplete : Service → Files → Counts → Counts → Status → Type 0
 IsComplete (Does task) before counts counts_now answer =
     IsOk (scripts_in task before) → NoneRose counts counts_now → (answer ≡ status.Ok) ⊎ (answer ≡ status.NoMemory)
 IsComplete (Plays number) before counts counts_now answer = NoneRose counts counts_now → (answer ≡ status.Ok) ⊎ (answer ≡ status.NoMemory)
 IsComplete NoRow before counts counts_now answer = Unit {0}
-IsComplete (NotYet form) before counts counts_now answer = Unit {0}
+IsComplete (Reads words) before counts counts_now answer = IsCompleteDecoding (file_at before words.input) counts counts_now answer
 
 -- ---- a demo, which has no files: over any shelf
 
@@ -223,12 +223,12 @@ IsComplete (NotYet form) before counts counts_now answer = Unit {0}
 abbrev pub TellsDemo : Service → List ℕ → List ℕ → Status → List Entry → ℕ → Type 0
 TellsDemo (Plays number) was now answer order written = ReportsDemo number was now answer order written
 TellsDemo NoRow was now answer order written = now ≡ was
-TellsDemo (NotYet form) was now answer order written = now ≡ was
+TellsDemo (Reads words) was now answer order written = Unit {0}
 TellsDemo (Does task) was now answer order written = Unit {0}
 
 -- where the report's count didn't rise, the answer is Ok, but for want of memory
 abbrev pub IsCompleteDemo : Service → ℕ → ℕ → Status → Type 0
 IsCompleteDemo (Plays number) before now answer = ¬ Rose before now → (answer ≡ status.Ok) ⊎ (answer ≡ status.NoMemory)
 IsCompleteDemo NoRow before now answer = Unit {0}
-IsCompleteDemo (NotYet form) before now answer = Unit {0}
+IsCompleteDemo (Reads words) before now answer = Unit {0}
 IsCompleteDemo (Does task) before now answer = Unit {0}

@@ -21,7 +21,6 @@ impl Status {
             Status::NoMemory => 7,
             Status::TooLarge { .. } => 8,
             Status::BadStream { .. } => 9,
-            Status::NotBuilt { .. } => 10,
         }
     }
 }
@@ -45,7 +44,6 @@ impl fmt::Display for Complaint {
             Status::NoMemory => write!(f, "no memory"),
             Status::TooLarge { file } => write!(f, "too large: file {file}"),
             Status::BadStream { at } => write!(f, "bad stream: unit {at}"),
-            Status::NotBuilt { form } => write!(f, "not built: {form:?}"),
         }
     }
 }

@@ -1,8 +1,9 @@
-//! Replays paint scripts on one desktop, and writes the cut pictures as a lossless H.265 stream.
+//! Replays paint scripts on one desktop, and writes the cut pictures as a lossless H.265 stream; reads such streams back.
 #![tactic(auto)]
 
 mod alone;
 mod complaint;
+mod decode;
 mod demo;
 mod outcome;
 mod paint_file;
@@ -14,11 +15,12 @@ mod stream_file;
 mod together;
 
 pub use complaint::Complaint;
+pub use decode::run_decode;
 pub use demo::run_demo;
 use edges::{DiskShelf, StreamSink};
 use gate::NoGate;
 use h265_model::NoMemory;
-pub use outcome::{Form, Outcome, Status};
+pub use outcome::{Outcome, Status};
 pub use recorder_model::{Cause, LimitKind};
 pub use recording::run;
 pub use serial::run_serial;
@@ -49,6 +51,7 @@ fn main(rt: HostRuntime) -> ExitCode {
     let outcome = match words.first().copied().unwrap_or("") {
         "serial" => run_serial(alloc, &words, &mut shelf, &mut report),
         "demo" => run_demo(alloc, &words, &mut report),
+        "decode" => run_decode(alloc, &words, &mut shelf, &mut report),
         _ => run(&rt, alloc, &words, &mut shelf, &mut report, &NoGate),
     };
     finish(&rt, outcome.status)

@@ -7,9 +7,10 @@ ghost use Rattle.screenrec.specs.Answers.{counts, HasCauses, IsSilent};
 ghost use Rattle.screenrec.specs.Recording.{run_service, Answers, RefusesEmpty, NamesFile, Leaves, Reports, IsComplete, TellsDemo, IsCompleteDemo};
 
 use crate::alone::serve;
+use crate::decode::serve_decode;
 use crate::demo::serve_demo;
 use crate::together::serve_together;
-use crate::{Form, Outcome, Status};
+use crate::{Outcome, Status};
 use command_line::{Row, read_words};
 use edges::{Shelf, Sink};
 use gate::Gate;
@@ -17,7 +18,7 @@ use std::alloc::Global;
 use std::sync::Wait;
 use std::thread::Threads;
 
-/// Serves every row of words, if it returns. Today `decode` isn't built.
+/// Serves every row of words, if it returns.
 pub fn run<R: Threads + Wait + Sync, F: Shelf + Send, K: Sink, G: Gate + Sync>(
     rt: &R,
     alloc: Global,
@@ -26,7 +27,7 @@ pub fn run<R: Threads + Wait + Sync, F: Shelf + Send, K: Sink, G: Gate + Sync>(
     report: &mut K,
     gate: &G,
 ) -> Outcome
-    // Usage and NotBuilt come exactly where the words say so, but for want of memory.
+    // Usage comes exactly where the words are in no row, but for want of memory.
     ensures words { Answers (run_service (row_of (texts words.now))) result.status }
     // A fault comes only where its count rose.
     ensures causes { HasCauses
@@ -66,11 +67,6 @@ pub fn run<R: Threads + Wait + Sync, F: Shelf + Send, K: Sink, G: Gate + Sync>(
         Some(Row::Record(words)) => serve_together(rt, alloc, &words, shelf, report, gate),
         Some(Row::Serial(words)) => serve(alloc, &words, shelf, report),
         Some(Row::Demo(number)) => serve_demo(alloc, number, report),
-        Some(Row::Decode(_)) => Outcome::refused(
-            alloc,
-            Status::NotBuilt {
-                form: Form::Command,
-            },
-        ),
+        Some(Row::Decode(words)) => serve_decode(alloc, &words, shelf, report),
     }
 }

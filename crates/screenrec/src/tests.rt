@@ -1,5 +1,6 @@
 //! Whole recordings over files in memory, and what is refused.
 mod cases;
+mod decode;
 mod demo;
 mod faults;
 mod large;
@@ -263,12 +264,7 @@ fn a_report_that_fails(rt: HostRuntime) -> Result<(), Fail> {
 #[test]
 fn words_that_are_not_served(rt: HostRuntime) -> Result<(), Fail> {
     let alloc = rt.alloc();
-    let mut shelf = CalmShelf::new(alloc)?;
     let mut report = MemorySink::new(alloc, &[])?;
-    let form = Form::Command;
-    let words = ["decode", "i", "o"];
-    let decode = run(&rt, alloc, &words, &mut shelf, &mut report, &NoGate);
-    assert_eq!(rt; decode.status, Status::NotBuilt { form });
     for words in [
         ["serial", "0"],
         ["demo", "18446744073709551616"],
@@ -304,13 +300,6 @@ fn complaints(rt: HostRuntime) -> Result<(), Fail> {
         (Status::NoMemory, 7, "no memory"),
         (Status::TooLarge { file }, 8, "too large: file 3"),
         (Status::BadStream { at: 5 }, 9, "bad stream: unit 5"),
-        (
-            Status::NotBuilt {
-                form: Form::Command,
-            },
-            10,
-            "not built: Command",
-        ),
     ];
     for (status, number, text) in rows {
         let complaint = Complaint(status);
