@@ -9,7 +9,6 @@ from typing import NamedTuple
 TOP = os.path.dirname(os.path.dirname(os.path.abspath(__file__)))
 PROGRAM = os.path.join(TOP, "crates", "screenrec", "out", "screenrec")
 X265 = "lossless=1:log-level=error"
-NOT_BUILT = 10
 
 
 class Coder(NamedTuple):
