@@ -1,8 +1,0 @@
-//! Streams of pictures, read one picture after another (Rec. ITU-T H.265, clause 8).
-#![tactic(auto)]
-
-mod error;
-mod reader;
-
-pub use error::DecodeError;
-pub use reader::Reader;
