@@ -1,6 +1,6 @@
 -- What reading on answers.
-use Rattle.std.specs.Prelude.{◌≡◌, Bool, true, false, ℕ, List, [], ◌∷◌, Option, Some, None, Result, Ok, Err}
-use Rattle.stream_decode.specs.Readings.{Reading, reading_of, raster_of}
+use Rattle.std.specs.Prelude.{◌≡◌, Bool, true, false, ℕ, [], ◌∷◌, Some, None, Result, Ok, Err}
+use Rattle.stream_decode.specs.Readings.{Reading, raster_of}
 use Rattle.stream_decode.specs.declared.error.DecodeError.{DecodeError}
 use Rattle.stream_decode.specs.declared.error.DecodeError.TheVariants.{BadStream, NoMemory}
 

@@ -2,7 +2,9 @@
 #![tactic(auto)]
 
 mod error;
+mod laws;
 mod reader;
 
 pub use error::DecodeError;
+pub use laws::each_reading_is_decoding;
 pub use reader::Reader;
