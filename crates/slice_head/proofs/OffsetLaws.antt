@@ -1,14 +1,14 @@
 -- Laws of entry points that are read.
-use Rattle.std.proofs.Common.{◌≡◌, ℕ, zero, suc, ◌+◌, ◌-◌, ◌*◌, ◌/◌, ◌%◌, ◌<◌, ◌≤◌, Bool, true, false, List, [], ◌∷◌, ◌++◌, length, drop, Option, Some, None, Result, Ok, Err, refl, sym, ◌∙◌, ap, arith, append_assoc, length-drop}
+use Rattle.std.proofs.Common.{◌≡◌, ℕ, suc, ◌+◌, ◌-◌, ◌/◌, ◌<◌, ◌≤◌, Bool, true, false, List, [], ◌∷◌, ◌++◌, length, Option, Some, None, Result, Ok, Err, refl, sym, ◌∙◌, ap, arith, append_assoc}
 use Rattle.std.specs.Prelude.{nat_lt}
 use Rattle.std.proofs.lemmas.Bool.Decides.{nat_tests}
 use Rattle.std.proofs.lemmas.List.{append-nil}
 use Rattle.h265_model.specs.Bits.{◌>>-◌}
-use Rattle.h265_model.specs.Bits.{bits, read_u, read_alignment, all_zero}
+use Rattle.h265_model.specs.Bits.{bits, read_u, read_alignment}
 use Rattle.h265_model.specs.Fields.{golomb, or_number, read_fields}
 use Rattle.h265_model.specs.SliceHead as specified
 use Rattle.h265_model.specs.SliceHead.{head_front, head_middle, read_poc, read_offsets, read_entries, read_head}
-use Rattle.slice_head.specs.Answers.{IsAnswer, IsList, front_of}
+use Rattle.slice_head.specs.Answers.{IsAnswer, IsList, aligned_length, front_of}
 use Rattle.slice_head.specs.declared.error.HeadError.{HeadError}
 use Rattle.slice_head.specs.declared.error.HeadError.TheVariants.{BadHead, NoMemory}
 
@@ -114,25 +114,32 @@ pub entries_differ : (rbsp : List ℕ) (idr : Bool) (rows poc n : ℕ) (y : List
 unfolding after_entries
 entries_differ rbsp idr rows poc n y e f = with_front rbsp idr rows poc y e ∙ ap (after_entries rbsp idr poc) f
 
-after_alignment : List ℕ → Bool → ℕ → List ℕ → Option (List Bool) → Whole
-after_alignment rbsp idr poc offsets r = or_number 13 r >>- λ rest. Ok (head_of idr poc offsets, length rbsp - length rest / 8)
+-- a value beside a length
+unfoldable pub beside : {A : Type 0} → A → Result ℕ ℕ → Result (A × ℕ) ℕ
+beside a r = r >>- λ n. Ok (a, n)
+
+abbrev pub with_length : {A : Type 0} → A → List ℕ → ℕ → Option (List Bool) → Result (A × ℕ) ℕ
+with_length a rbsp number o = or_number number o >>- λ rest. Ok (a, length rbsp - length rest / 8)
+
+pub length_beside : {A : Type 0} (a : A) (rbsp : List ℕ) (number : ℕ) (o : Option (List Bool)) → with_length a rbsp number o ≡ beside a (or_number number o >>- λ rest. Ok (length rbsp - length rest / 8))
+unfolding beside
+length_beside a rbsp number None = refl
+length_beside a rbsp number (Some rest) = refl
 
 with_entries : (rbsp : List ℕ) (idr : Bool) (rows poc : ℕ) (y : List Bool) (offsets : List ℕ) (z : List Bool) → front_of idr (rows - 1) (bits rbsp) ≡ Ok (poc, y) → read_entries (rows - 1) y ≡ Ok (offsets, z) →
-    read_head rbsp idr rows ≡ after_alignment rbsp idr poc offsets (read_alignment z)
-unfolding after_entries after_alignment
-with_entries rbsp idr rows poc y offsets z e f = with_front rbsp idr rows poc y e ∙ ap (after_entries rbsp idr poc) f
+    read_head rbsp idr rows ≡ beside (head_of idr poc offsets) (aligned_length rbsp 13 z)
+unfolding after_entries
+with_entries rbsp idr rows poc y offsets z e f = with_front rbsp idr rows poc y e ∙ ap (after_entries rbsp idr poc) f ∙ length_beside (head_of idr poc offsets) rbsp 13 (read_alignment z)
 
-pub not_aligned : (rbsp : List ℕ) (idr : Bool) (rows poc : ℕ) (y : List Bool) (offsets : List ℕ) (z : List Bool) → front_of idr (rows - 1) (bits rbsp) ≡ Ok (poc, y) → read_entries (rows - 1) y ≡ Ok (offsets, z) → read_alignment z ≡ None →
-    read_head rbsp idr rows ≡ Err 13
-unfolding after_alignment
-not_aligned rbsp idr rows poc y offsets z e f g = with_entries rbsp idr rows poc y offsets z e f ∙ ap (after_alignment rbsp idr poc offsets) g
+pub not_aligned : (rbsp : List ℕ) (idr : Bool) (rows poc : ℕ) (y : List Bool) (offsets : List ℕ) (z : List Bool) (n : ℕ) → front_of idr (rows - 1) (bits rbsp) ≡ Ok (poc, y) → read_entries (rows - 1) y ≡ Ok (offsets, z) → aligned_length rbsp 13 z ≡ Err n →
+    read_head rbsp idr rows ≡ Err n
+unfolding beside
+not_aligned rbsp idr rows poc y offsets z n e f g = with_entries rbsp idr rows poc y offsets z e f ∙ ap (beside (head_of idr poc offsets)) g
 
-pub head_read : (rbsp : List ℕ) (idr : Bool) (rows poc : ℕ) (y : List Bool) (offsets : List ℕ) (z rest : List Bool) (n : ℕ) → front_of idr (rows - 1) (bits rbsp) ≡ Ok (poc, y) → read_entries (rows - 1) y ≡ Ok (offsets, z) → read_alignment z ≡ Some rest →
-    n ≡ length rbsp - length rest / 8 → read_head rbsp idr rows ≡ Ok (record { idr = idr; poc = poc; offsets = offsets }, n)
-unfolding after_alignment head_of
-head_read rbsp idr rows poc y offsets z rest n e f g is =
-    let F : ℕ → Whole = λ n. Ok (head_of idr poc offsets, n) in
-    with_entries rbsp idr rows poc y offsets z e f ∙ ap (after_alignment rbsp idr poc offsets) g ∙ ap F (sym is)
+pub head_read : (rbsp : List ℕ) (idr : Bool) (rows poc : ℕ) (y : List Bool) (offsets : List ℕ) (z : List Bool) (n : ℕ) → front_of idr (rows - 1) (bits rbsp) ≡ Ok (poc, y) → read_entries (rows - 1) y ≡ Ok (offsets, z) → aligned_length rbsp 13 z ≡ Ok n →
+    read_head rbsp idr rows ≡ Ok (record { idr = idr; poc = poc; offsets = offsets }, n)
+unfolding beside head_of
+head_read rbsp idr rows poc y offsets z n e f g = with_entries rbsp idr rows poc y offsets z e f ∙ ap (beside (head_of idr poc offsets)) g
 
 pub passed_on : (rbsp : List ℕ) (idr : Bool) (rows poc : ℕ) (y left : List Bool) (error : HeadError) → front_of idr (rows - 1) (bits rbsp) ≡ Ok (poc, y) → IsList (read_entries (rows - 1) y) (Err error) left → IsAnswer (read_head rbsp idr rows) (Err error)
 passed_on rbsp idr rows poc y left (BadHead n) e f = entries_differ rbsp idr rows poc n y e f

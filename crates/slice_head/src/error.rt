@@ -11,3 +11,11 @@ pub enum HeadError {
     #[error("no memory")]
     NoMemory,
 }
+
+/// Why a segment's header isn't read: the first field that isn't as a header of these segments has it, or at which the
+/// bits end, by its number in the header's table.
+#[derive(Clone, Copy, Debug, PartialEq, Eq, Error)]
+#[error("field {field} of the segment's header differs")]
+pub struct BadSegment {
+    pub field: u32,
+}

@@ -1,8 +1,8 @@
 //! Reading slice segment headers.
-ghost use Rattle.std.specs.Prelude.{◌≡◌, ◌-◌, ◌<◌, ◌≤◌, ◌++◌, ◌∷◌, [], Ok, Err, true, IfOk, MatchResult};
+ghost use Rattle.std.specs.Prelude.{◌≡◌, ◌-◌, ◌<◌, ◌≤◌, ◌++◌, ◌∷◌, [], Ok, Err, length, true, IfOk, MatchResult};
 ghost use Rattle.h265_model.specs.Fields.{golomb, read_fields};
 ghost use Rattle.h265_model.specs.SliceHead.{head_front, head_middle, read_poc, read_offsets, read_entries, read_head};
-ghost use Rattle.slice_head.specs.Answers.{IsAnswer, IsList, front_of};
+ghost use Rattle.slice_head.specs.Answers.{IsAnswer, IsList, aligned_length, front_of};
 
 use crate::tables::{front, middle};
 use crate::{Head, HeadError};
@@ -17,7 +17,8 @@ use std::alloc::Global;
 /// nothing has changed.
 pub fn read_head(alloc: Global, rbsp: &[u8], idr: bool, rows: u32) -> Result<(Head, u64), HeadError>
     requires { 1 ≤ rows }
-    ensures { IsAnswer (read_head rbsp.now idr rows) result }
+    ensures answer { IsAnswer (read_head rbsp.now idr rows) result }
+    ensures within { IfOk result (λ found. found.1 ≤ length rbsp.now) }
 {
     let mut from = BitReader::new(rbsp);
     let poc = match read_front(&mut from, idr, rows - 1) {
@@ -28,17 +29,28 @@ pub fn read_head(alloc: Global, rbsp: &[u8], idr: bool, rows: u32) -> Result<(He
         Ok(offsets) => offsets,
         Err(error) => return Err(error),
     };
-    match from.align_one() {
-        None => Err(HeadError::BadHead { field: 13 }),
-        Some(()) => Ok((
-            Head { idr, poc, offsets },
-            rbsp.len().saturating_sub(from.bytes_left()) as u64,
-        )),
+    match aligned_length(rbsp, &mut from, 13) {
+        Ok(length) => Ok((Head { idr, poc, offsets }, length)),
+        Err(field) => Err(HeadError::BadHead { field }),
     }
 }
 
-// The fields up to num_entry_point_offsets, of which all but slice_pic_order_cnt_lsb are known.
-fn read_front(from: &mut BitReader, idr: bool, count: u32) -> Result<u32, u32>
+/// Reads byte_alignment, of this number in the header's table, and says how many of all these bytes are before what is left
+/// (7.3.2.12).
+pub(crate) fn aligned_length(rbsp: &[u8], from: &mut BitReader, number: u32) -> Result<u64, u32>
+    ensures found { MatchResult result
+        (λ length. aligned_length rbsp.now number from.old.left ≡ Ok length)
+        (λ field. aligned_length rbsp.now number from.old.left ≡ Err field) }
+    ensures within { IfOk result (λ end. end ≤ length rbsp.now) }
+{
+    match from.align_one() {
+        None => Err(number),
+        Some(()) => Ok(rbsp.len().saturating_sub(from.bytes_left()) as u64),
+    }
+}
+
+/// Reads the fields up to num_entry_point_offsets, of which all but slice_pic_order_cnt_lsb are known: that one.
+pub(crate) fn read_front(from: &mut BitReader, idr: bool, count: u32) -> Result<u32, u32>
     ensures read { MatchResult result
         (λ poc. front_of idr count from.old.left ≡ Ok (poc, from.new.left))
         (λ field. front_of idr count from.old.left ≡ Err field) }

@@ -1,6 +1,7 @@
 //! The fixed fields of the slice segment header (7.3.6.1).
 ghost use Rattle.std.specs.Prelude.{◌≡◌, IsTrue};
 ghost use Rattle.h265_model.specs.SliceHead.{head_front, head_middle};
+ghost use Rattle.slice_head.specs.Answers.{dependent_front};
 ghost use Rattle.bit_string.specs.Tables.{fields_of, all_wide, all_writable};
 
 use bit_string::{Descriptor, Field};
@@ -53,6 +54,26 @@ static MIDDLE: [Field; 4] = [
     ue!(9, 0),
 ];
 
+static IDR_DEPENDENT: [Field; 4] = [
+    // first_slice_segment_in_pic_flag
+    u!(1, 1, 0),
+    // no_output_of_prior_pics_flag
+    u!(2, 1, 0),
+    // slice_pic_parameter_set_id
+    ue!(3, 0),
+    // dependent_slice_segment_flag
+    u!(4, 1, 1),
+];
+
+static DEPENDENT: [Field; 3] = [
+    // first_slice_segment_in_pic_flag
+    u!(1, 1, 0),
+    // slice_pic_parameter_set_id
+    ue!(3, 0),
+    // dependent_slice_segment_flag
+    u!(4, 1, 1),
+];
+
 /// The fields up to slice_type.
 pub fn front(idr: bool) -> &'static [Field]
     ensures fields { fields_of result.now ≡ head_front idr }
@@ -69,4 +90,13 @@ pub fn middle(idr: bool) -> &'static [Field]
     ensures wide { IsTrue (all_wide (fields_of result.now)) }
 {
     if idr { &IDR_MIDDLE } else { &MIDDLE }
+}
+
+/// The fields of a dependent segment before slice_segment_address.
+pub fn dependent_front(idr: bool) -> &'static [Field]
+    ensures fields { fields_of result.now ≡ dependent_front idr }
+    ensures writable { IsTrue (all_writable (fields_of result.now)) }
+    ensures wide { IsTrue (all_wide (fields_of result.now)) }
+{
+    if idr { &IDR_DEPENDENT } else { &DEPENDENT }
 }

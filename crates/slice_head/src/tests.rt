@@ -1,5 +1,7 @@
 //! Headers of pictures, as an independent model of the format writes them.
-use crate::{Head, HeadError, read_head, write_head};
+use crate::{
+    BadSegment, Head, HeadError, read_head, read_segment_head, write_head, write_segment_head,
+};
 use h265_model::Numbers;
 use std::test::Fail;
 
@@ -138,6 +140,72 @@ fn errors_in_words(rt: HostRuntime) -> Result<(), Fail> {
     ];
     for (error, text) in rows {
         assert_eq!(rt; format!(in rt.alloc(); "{error}")?.as_str(), text);
+    }
+    let bad = BadSegment { field: 5 };
+    assert_eq!(rt;
+        format!(in rt.alloc(); "{bad}")?.as_str(),
+        "field 5 of the segment's header differs"
+    );
+    Ok(())
+}
+
+// IDR, POC bits, address, how many coding tree units and the bytes of a segment's header
+const SEGMENTS: [(bool, u32, u32, u32, &[u8]); 10] = [
+    (true, 0, 0, 6, &[0xAF, 0x80]),
+    (false, 1, 0, 6, &[0xD0, 0x0C, 0x5E]),
+    (false, 255, 0, 2, &[0xD7, 0xFC, 0x5E]),
+    (true, 0, 1, 2, &[0x3E]),
+    (false, 0, 1, 2, &[0x7C]),
+    (true, 0, 3, 6, &[0x37, 0x80]),
+    (false, 7, 3, 6, &[0x6F]),
+    (false, 7, 4, 5, &[0x73]),
+    (false, 1, 60, 2040, &[0x60, 0xF3]),
+    (true, 0, 16256, 16384, &[0x3F, 0xE0, 0x30]),
+];
+
+#[test]
+fn writes_and_reads_segments(rt: HostRuntime) -> Result<(), Fail> {
+    for (idr, poc, address, ctus, bytes) in SEGMENTS {
+        assert!(rt; address < ctus && poc < 256 && !(idr && poc != 0));
+        let out = write_segment_head(rt.alloc(), idr, poc, address, ctus)?;
+        assert_eq!(rt; out.as_slice(), bytes);
+        match read_segment_head(bytes, idr, address, ctus) {
+            Ok((order, length)) => {
+                assert_eq!(rt; order, if address == 0 { poc } else { 0 });
+                assert_eq!(rt; length, bytes.len() as u64);
+            }
+            Err(bad) => assert!(rt; false, "{bad}"),
+        }
+    }
+    Ok(())
+}
+
+// Headers of segments of a picture of six coding tree units that are cut or have one bit changed, the address and the
+// field that differs
+const OTHERS: [(bool, u32, &[u8], u32); 13] = [
+    (false, 3, &[0xEF], 1),
+    (true, 3, &[0x77, 0x80], 2),
+    (false, 3, &[0x2F], 3),
+    (false, 3, &[0x4F], 4),
+    (false, 3, &[0x6B], 5),
+    (false, 3, &[0x6D, 0x80], 6),
+    (false, 3, &[0x6E], 7),
+    (true, 3, &[0x37], 7),
+    (true, 3, &[], 1),
+    (false, 0, &[0x50, 0x0C, 0x5E], 1),
+    (false, 0, &[0xD0], 5),
+    (true, 0, &[0xAE, 0x81, 0, 0, 1, 0x20, 0x1C], 10),
+    (true, 0, &[0xAF], 13),
+];
+
+#[test]
+fn names_fields_of_segments(rt: HostRuntime) -> Result<(), Fail> {
+    for (idr, address, bytes, field) in OTHERS {
+        assert!(rt; address < 6);
+        assert_eq!(rt;
+            read_segment_head(bytes, idr, address, 6).err(),
+            Some(BadSegment { field })
+        );
     }
     Ok(())
 }

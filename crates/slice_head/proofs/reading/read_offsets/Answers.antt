@@ -1,4 +1,4 @@
-use Rattle.std.proofs.Common.{◌≡◌, ℕ, suc, ◌+◌, ◌-◌, ◌++◌, ◌∷◌, [], List, Bool, Result, Ok, sym, ◌∙◌, ap, arith}
+use Rattle.std.proofs.Common.{◌≡◌, ℕ, suc, ◌+◌, ◌-◌, List, Bool, Result, Ok, sym, ◌∙◌, ap, arith}
 use Rattle.h265_model.specs.Bits.{read_u}
 use Rattle.h265_model.specs.SliceHead.{read_offsets}
 use Rattle.bit_string.proofs.ReadLaws.{read_some, read_none}

@@ -1,4 +1,4 @@
-use Rattle.std.proofs.Common.{◌≡◌, ◌-◌, ◌≤◌}
+use Rattle.std.proofs.Common.{◌≡◌, ◌-◌}
 use Rattle.h265_model.specs.SliceHead.{read_offsets}
 use Rattle.slice_head.proofs.OffsetLaws.{put_before}
 use Rattle.slice_head.proofs.reading.read_offsets.Given as goal

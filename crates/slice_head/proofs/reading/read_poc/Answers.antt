@@ -1,4 +1,4 @@
-use Rattle.std.proofs.Common.{◌<◌, arith}
+use Rattle.std.proofs.Common.{arith}
 use Rattle.bit_string.proofs.Codes.{low_below}
 use Rattle.slice_head.proofs.reading.read_poc.Goals as goal
 
