@@ -1,5 +1,7 @@
 pub mod Escapes
 pub mod Payloads
 pub mod ReadBack
-pub mod Starts
+pub mod StartCodes
+pub mod StartCounts
 pub mod Streams
+pub mod Walks

@@ -15,11 +15,11 @@ end_mark a b c list x y z = grind (arith, nat_tests)
 no_end : (a b c : ℕ) (list : List ℕ) → (a ≡ 0 → b ≡ 0 → 1 < c) → is_end (a ∷ b ∷ c ∷ list) ≡ false
 no_end a b c list h = grind (arith, nat_tests)
 
-goes_on : (b : ℕ) (bytes : List ℕ) → is_end (b ∷ bytes) ≡ false → payload (b ∷ bytes) ≡ b ∷ payload bytes
+pub goes_on : (b : ℕ) (bytes : List ℕ) → is_end (b ∷ bytes) ≡ false → payload (b ∷ bytes) ≡ b ∷ payload bytes
 unfolding payload
 goes_on b bytes h = rw h
 
-ends : (b : ℕ) (bytes : List ℕ) → is_end (b ∷ bytes) ≡ true → payload (b ∷ bytes) ≡ []
+pub ends : (b : ℕ) (bytes : List ℕ) → is_end (b ∷ bytes) ≡ true → payload (b ∷ bytes) ≡ []
 unfolding payload
 ends b bytes h = rw h
 

@@ -5,11 +5,8 @@ use Rattle.std.proofs.lemmas.Bool.Decides.{nat_tests}
 use Rattle.std.proofs.lemmas.List.{append-nil, length_push, length-take-le, length-drop}
 use Rattle.h265_model.specs.Bits.{◌>>-◌}
 use Rattle.h265_model.specs.NalUnits.{NalUnit, only_zeros, payload, nal_unit_of, next_start, units_within, units}
-use Rattle.annexb.specs.declared.error.UnitsError.{UnitsError}
-use Rattle.annexb.specs.declared.error.UnitsError.TheVariants.{BadUnit, NoMemory}
-use Rattle.annexb.specs.Refusals.{IsRefusal}
 use Rattle.annexb.proofs.Payloads.{rest_is}
-use Rattle.annexb.proofs.Starts.{drop_drop}
+use Rattle.annexb.proofs.StartCodes.{drop_drop}
 
 -- the NAL units of the bytes up to a place are a list
 pub record IsReadSoFar (bytes : List ℕ) (list : List NalUnit) (place : ℕ) : Type 0 where
@@ -88,22 +85,26 @@ pub not_found : (bytes : List ℕ) (place : ℕ) (found : Option ℕ) → found 
 not_found bytes place None is code = code
 not_found bytes place (Some after) is code = absurd (cc)
 
-first_read : (f place start n : ℕ) (bytes : List ℕ) → IsFound bytes place start n →
+-- the NAL units from a start code on, of which there are at most n after the first
+abbrev pub units_after : ℕ → Result (Option (ℕ × List ℕ)) ℕ → Result (List NalUnit) ℕ
+units_after n r =
+    r >>- λ start.
+    elim start [
+      | None ↦ Ok []
+      | Some found ↦
+          let p : List ℕ = payload found.1 in
+          nal_unit_of found.0 p >>- λ first.
+          units_within n (found.0 + length p) (drop (length p) found.1) >>- λ others.
+          Ok (first ∷ others)
+    ]
+
+pub first_read : (f place start n : ℕ) (bytes : List ℕ) → IsFound bytes place start n →
     units_within (suc f) place (drop place bytes)
     ≡ (nal_unit_of start (take n (drop start bytes)) >>- λ first. units_within f (start + n) (drop (start + n) bytes) >>- λ others. Ok (first ∷ others))
 unfolding units_within
 first_read f place start n bytes is =
     let rest = drop start bytes in
-    let F : Result (Option (ℕ × List ℕ)) ℕ → Result (List NalUnit) ℕ = λ r.
-    r >>- λ found.
-    elim found [
-      | None ↦ Ok []
-      | Some found ↦
-          let p : List ℕ = payload found.1 in
-          nal_unit_of found.0 p >>- λ first.
-          units_within f (found.0 + length p) (drop (length p) found.1) >>- λ others.
-          Ok (first ∷ others)
-    ] in
+    let F = units_after f in
     let G : List ℕ → ℕ → List ℕ → Result (List NalUnit) ℕ = λ p m left.
     nal_unit_of start p >>- λ first. units_within f (start + m) left >>- λ others. Ok (first ∷ others) in
     ap F is.code
@@ -143,16 +144,16 @@ read-unit bytes list place start n unit so found read =
 
 -- the ways in which reading ends
 
-at_end : (f place : ℕ) (bytes : List ℕ) → next_start place 0 bytes ≡ Ok None → units_within f place bytes ≡ Ok []
+pub at_end : (f place : ℕ) (bytes : List ℕ) → next_start place 0 bytes ≡ Ok None → units_within f place bytes ≡ Ok []
 unfolding units_within
 at_end zero place bytes h = refl
 at_end (suc f) place bytes h = rw h refl
 
-at_refusal : (f place at : ℕ) (bytes : List ℕ) → next_start place 0 bytes ≡ Err at → units_within (suc f) place bytes ≡ Err at
+pub at_refusal : (f place at : ℕ) (bytes : List ℕ) → next_start place 0 bytes ≡ Err at → units_within (suc f) place bytes ≡ Err at
 unfolding units_within
 at_refusal f place at bytes h = rw h refl
 
-some_left : (place at : ℕ) (bytes : List ℕ) → next_start place 0 bytes ≡ Err at → 0 < length bytes
+pub some_left : (place at : ℕ) (bytes : List ℕ) → next_start place 0 bytes ≡ Err at → 0 < length bytes
 unfolding next_start
 some_left place at [] h = absurd (cc)
 some_left place at (b ∷ bytes) h = omega arith
@@ -164,7 +165,7 @@ read-end bytes list place so none =
     ∙ ap (λ (r : Result (List NalUnit) ℕ). r >>- λ others. Ok (list ++ others)) (at_end (length bytes - length list) place (drop place bytes) none)
     ∙ ap Ok (append-nil list)
 
-read-refused_start : (bytes : List ℕ) (list : List NalUnit) (place at : ℕ) → IsReadSoFar bytes list place → next_start place 0 (drop place bytes) ≡ Err at →
+pub read-refused_start : (bytes : List ℕ) (list : List NalUnit) (place at : ℕ) → IsReadSoFar bytes list place → next_start place 0 (drop place bytes) ≡ Err at →
     units bytes ≡ Err at
 read-refused_start bytes list place at so refused =
     let some = some_left place at (drop place bytes) refused in
@@ -175,7 +176,7 @@ read-refused_start bytes list place at so refused =
     ∙ ap (λ (k : ℕ). J (units_within k place (drop place bytes))) (one_fewer (length bytes) (length list) more)
     ∙ ap J (at_refusal (length bytes - (length list + 1)) place at (drop place bytes) refused)
 
-read-refused_unit : (bytes : List ℕ) (list : List NalUnit) (place start n at : ℕ) → IsReadSoFar bytes list place → IsFound bytes place start n →
+pub read-refused_unit : (bytes : List ℕ) (list : List NalUnit) (place start n at : ℕ) → IsReadSoFar bytes list place → IsFound bytes place start n →
     nal_unit_of start (take n (drop start bytes)) ≡ Err at → units bytes ≡ Err at
 read-refused_unit bytes list place start n at so found refused =
     let whole = length bytes in
@@ -187,14 +188,3 @@ read-refused_unit bytes list place start n at so found refused =
     ∙ ap (λ (k : ℕ). J (units_within k place (drop place bytes))) (one_fewer whole (length list) more)
     ∙ ap J (first_read f place start n bytes found)
     ∙ ap (λ r. J (then r)) refused
-
--- the same, by what refused
-
-pub start-refusal : (bytes : List ℕ) (list : List NalUnit) (place : ℕ) (e : UnitsError) → IsReadSoFar bytes list place → IsRefusal (next_start place 0 (drop place bytes)) e → IsRefusal (units bytes) e
-start-refusal bytes list place (BadUnit at) so h = read-refused_start bytes list place at so h
-start-refusal bytes list place NoMemory so h = tt
-
-pub unit-refusal : (bytes : List ℕ) (list : List NalUnit) (place start n : ℕ) (e : UnitsError) → IsReadSoFar bytes list place → IsFound bytes place start n →
-    IsRefusal (nal_unit_of start (take n (drop start bytes))) e → IsRefusal (units bytes) e
-unit-refusal bytes list place start n (BadUnit at) so found h = read-refused_unit bytes list place start n at so found h
-unit-refusal bytes list place start n NoMemory so found h = tt

@@ -1,12 +1,10 @@
 //! One NAL unit: where it ends, and what it holds (7.3.1.1, B.2.1).
-ghost use Rattle.std.specs.Prelude.{ℕ, ◌≡◌, ◌+◌, ◌<◌, ◌≤◌, ◌≢◌, length, take, slice_index, None, Some, Ok, IfOk, IfErr, MatchOption};
-ghost use Rattle.h265_model.specs.NalUnits.{payload, forbidden, unescape, nal_unit_of};
-ghost use Rattle.annexb.specs.Refusals.{IsRefusal};
+ghost use Rattle.std.specs.Prelude.{ℕ, ◌≡◌, ◌+◌, ◌<◌, ◌≤◌, ◌≢◌, length, take, slice_index, None, Some, Ok, Err, OnOk, IfErr, MatchOption};
+ghost use Rattle.h265_model.specs.NalUnits.{NalUnit, payload, forbidden, unescape, nal_unit_of};
 
+use crate::BadUnit;
 use crate::marks::find_mark;
-use crate::{Unit, UnitsError};
-use h265_model::{Bytes, NoMemory};
-use std::alloc::Global;
+use h265_model::NoMemory;
 
 /// The length of the payload at the front of these bytes.
 pub fn payload_len(bytes: &[u8]) -> usize
@@ -33,22 +31,22 @@ fn without_final_zeros(bytes: &[u8]) -> usize
     len
 }
 
-/// The NAL unit of a payload that starts at place `at` of its stream.
-pub fn nal_unit(alloc: Global, at: usize, payload: &[u8]) -> Result<Unit, UnitsError>
+/// Checks the payload of a NAL unit, which starts at place `at` of its stream.
+pub fn check_payload(at: usize, payload: &[u8]) -> Result<(), BadUnit>
     requires { at + length payload.now ≤ usize.MAX }
-    ensures read { IfOk result (λ unit. nal_unit_of at payload.now ≡ Ok unit) }
-    ensures refused { IfErr result (IsRefusal (nal_unit_of at payload.now)) }
+    ensures read { OnOk result ((unit : NalUnit) × (nal_unit_of at payload.now ≡ Ok unit)) }
+    ensures refused { IfErr result (λ bad. nal_unit_of at payload.now ≡ Err bad.at) }
 {
     if payload.len() < 2 {
-        return Err(UnitsError::BadUnit { at: at as u64 });
+        return Err(BadUnit { at: at as u64 });
     }
-    if let Some(place) = forbidden_place(payload) {
-        let at = (at + place) as u64;
-        return Err(UnitsError::BadUnit { at });
+    match forbidden_place(payload) {
+        Some(place) => {
+            let at = (at + place) as u64;
+            Err(BadUnit { at })
+        }
+        None => Ok(()),
     }
-    let rbsp = Bytes::from_vec(unescape(alloc, &payload[2..])?);
-    let header = [payload[0], payload[1]];
-    Ok(Unit { header, rbsp })
 }
 
 // The first place of a byte that no payload may have there (7.4.2.1).
@@ -76,18 +74,18 @@ fn forbidden_place(bytes: &[u8]) -> Option<usize>
     }
 }
 
-// Leaves out each 03 that follows two zeros (7.3.1.1).
-fn unescape(alloc: Global, bytes: &[u8]) -> Result<Vec<u8>, NoMemory>
-    ensures { IfOk result (λ out. out.items ≡ unescape bytes.now) }
+/// Puts the bytes without each 03 that follows two zeros in place of what `out` held (7.3.1.1).
+pub fn unescape(out: &mut Vec<u8>, bytes: &[u8]) -> Result<(), NoMemory>
+    ensures { OnOk result (out.new.items ≡ unescape bytes.now) }
 {
-    let mut out = Vec::new(alloc);
+    out.clear();
     out.reserve(bytes.len())?;
     let mut rest = bytes;
     loop {
         let mark = find_mark(rest, 3, 3);
         out.extend_from_slice(&rest[..mark])?;
         if mark == rest.len() {
-            return Ok(out);
+            return Ok(());
         }
         rest = &rest[mark + 1..];
     }

@@ -1,5 +1,5 @@
 //! Bytes of the standard's grammar, as tables.
-use crate::{UnitsError, append_unit, escape, units};
+use crate::{BadUnit, UnitsError, Walk, append_unit, escape, start_codes, units};
 use h265_model::NoMemory;
 use std::test::Fail;
 
@@ -70,28 +70,66 @@ fn reads(rt: HostRuntime) -> Result<(), Fail> {
 }
 
 #[test]
+fn walks(rt: HostRuntime) -> Result<(), Fail> {
+    let mut rbsp = Vec::new(rt.alloc());
+    for (bytes, want) in READ {
+        let mut walk = Walk::new(bytes)?;
+        let mut kept = walk.twin();
+        for (header, payload) in want {
+            assert_eq!(rt; walk.header(), Some(*header));
+            assert_eq!(rt; walk.next(&mut rbsp)?, Some(*header));
+            assert_eq!(rt; rbsp.as_slice(), *payload);
+        }
+        assert_eq!(rt; walk.header(), None);
+        assert_eq!(rt; walk.next(&mut rbsp)?, None);
+        assert_eq!(rt;
+            kept.next(&mut rbsp)?,
+            want.first().map(|(header, _)| *header)
+        );
+    }
+    Ok(())
+}
+
+const REFUSED: [(&[u8], u64); 14] = [
+    (&[0x44], 0),
+    (&[0, 0], 2),
+    (&[0, 0, 1, 0x44], 3),
+    (&[0, 0, 1, 0x44, 1, 0, 0, 2], 7),
+    (&[1], 0),
+    (&[0, 1], 1),
+    (&[0, 0, 2], 2),
+    (&[0, 0, 1], 3),
+    (&[0, 0, 1, 0x44, 1, 0, 0, 3, 4], 8),
+    (&[0, 0, 1, 0, 0, 2, 0x44, 1], 5),
+    (&[0, 0, 1, 0, 0, 3, 4], 6),
+    (&[0, 0, 1, 0x44, 1, 0, 0, 3, 2, 0, 0, 3, 5], 12),
+    (&[0, 0, 1, 0x44, 1, 0, 0, 3, 0, 0, 3, 2, 0, 0, 2], 14),
+    (&[0, 0, 1, 0x44, 1, 0, 0, 1, 0x42, 0, 0, 1, 0x44, 1], 8),
+];
+
+#[test]
 fn refuses(rt: HostRuntime) -> Result<(), Fail> {
-    let table: [(&[u8], u64); 14] = [
-        (&[0x44], 0),
-        (&[0, 0], 2),
-        (&[0, 0, 1, 0x44], 3),
-        (&[0, 0, 1, 0x44, 1, 0, 0, 2], 7),
-        (&[1], 0),
-        (&[0, 1], 1),
-        (&[0, 0, 2], 2),
-        (&[0, 0, 1], 3),
-        (&[0, 0, 1, 0x44, 1, 0, 0, 3, 4], 8),
-        (&[0, 0, 1, 0, 0, 2, 0x44, 1], 5),
-        (&[0, 0, 1, 0, 0, 3, 4], 6),
-        (&[0, 0, 1, 0x44, 1, 0, 0, 3, 2, 0, 0, 3, 5], 12),
-        (&[0, 0, 1, 0x44, 1, 0, 0, 3, 0, 0, 3, 2, 0, 0, 2], 14),
-        (&[0, 0, 1, 0x44, 1, 0, 0, 1, 0x42, 0, 0, 1, 0x44, 1], 8),
-    ];
-    for (bytes, at) in table {
+    for (bytes, at) in REFUSED {
+        assert_eq!(rt; Walk::new(bytes).err(), Some(BadUnit { at }));
         let refused = units(rt.alloc(), bytes).err();
         assert_eq!(rt; refused, Some(UnitsError::BadUnit { at }));
     }
     Ok(())
+}
+
+#[test]
+fn counts_start_codes(rt: HostRuntime) {
+    let table: [(&[u8], u32); 6] = [
+        (&[], 0),
+        (&[0, 0, 1], 1),
+        (&[0, 1, 0, 0, 0, 1, 0, 0, 2], 1),
+        (&[0, 0, 1, 0, 0, 1, 0, 1], 2),
+        (&[0, 0, 1, 0x44, 1, 0, 0, 3, 0, 0, 1], 2),
+        (&[1, 0, 0], 0),
+    ];
+    for (bytes, want) in table {
+        assert_eq!(rt; start_codes(bytes), want);
+    }
 }
 
 #[test]
@@ -125,6 +163,11 @@ fn errors_in_words(rt: HostRuntime) -> Result<(), Fail> {
     for (error, text) in rows {
         assert_eq!(rt; format!(in alloc; "{error}")?.as_str(), text);
     }
+    let bad = BadUnit { at: 70 };
+    assert_eq!(rt;
+        format!(in alloc; "{bad}")?.as_str(),
+        "no NAL unit at byte 70"
+    );
     assert_eq!(rt; format!(in alloc; "{}", NoMemory)?.as_str(), "no memory");
     Ok(())
 }

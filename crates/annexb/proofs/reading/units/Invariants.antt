@@ -1,9 +1,10 @@
-use Rattle.std.proofs.Common.{◌-◌, length}
-use Rattle.annexb.proofs.Streams.{IsReadSoFar}
+use Rattle.std.proofs.Common.{◌≡◌, ◌++◌, length, Ok}
+use Rattle.h265_model.specs.NalUnits.{units}
 use Rattle.annexb.proofs.reading.units.Given as goal
 
-abbrev pub invariant-loop-list : goal.invariant-loop-list
-invariant-loop-list l = IsReadSoFar l.bytes l.list.items l.place
+-- what was taken and what is left are the whole
+abbrev pub invariant-loop-rbsp : goal.invariant-loop-rbsp
+invariant-loop-rbsp l = units l.bytes ≡ Ok (l.list.items ++ l.walk)
 
-abbrev pub decreases-loop-list : goal.decreases-loop-list
-decreases-loop-list l = length l.bytes - l.place
+abbrev pub decreases-loop-rbsp : goal.decreases-loop-rbsp
+decreases-loop-rbsp l = length l.walk

@@ -2,9 +2,9 @@ use Rattle.std.proofs.Common.{ℕ, List, ◌≡◌, ◌+◌, ◌-◌, ◌<◌, s
 use Rattle.std.proofs.lemmas.List.{length-drop}
 use Rattle.h265_model.specs.NalUnits.{next_start}
 use Rattle.annexb.proofs.Payloads.{rest_is}
-use Rattle.annexb.proofs.Starts.{start-none, start-found, start-refused, later_drop}
-use Rattle.annexb.proofs.reading.next_start.Goals as goal
-use Rattle.annexb.proofs.reading.next_start.Goals.{else-zeros-ge2-via-then-zeros-ge2+else-rest-zeros-eq1, else-zeros-ge2-via-else-zeros-ge2}
+use Rattle.annexb.proofs.StartCodes.{start-none, start-found, start-refused, later_drop}
+use Rattle.annexb.proofs.starts.next_start.Goals as goal
+use Rattle.annexb.proofs.starts.next_start.Goals.{else-zeros-ge2-via-then-zeros-ge2+else-rest-zeros-eq1, else-zeros-ge2-via-else-zeros-ge2}
 
 pub returns-then-zeros-rest-clause-found : goal.returns-then-zeros-rest-clause-found
 returns-then-zeros-rest-clause-found c =

@@ -1,5 +1,5 @@
 use Rattle.std.proofs.Common.{◌≡◌, ◌≤◌, ◌<◌, ◌-◌, ℕ, length, get_or}
-use Rattle.annexb.proofs.reading.front_zeros.Given as goal
+use Rattle.annexb.proofs.starts.front_zeros.Given as goal
 
 -- only zeros were passed
 abbrev pub invariant-loop-zeros : goal.invariant-loop-zeros
