@@ -5,6 +5,8 @@ use Rattle.h265_model.specs.NalUnits.{NalUnit}
 use Rattle.h265_model.specs.Hash.{hash_header}
 use Rattle.h265_model.specs.Decode.{Stand, Decoded, sets_or_number, shown}
 use Rattle.px_plane.specs.Planes.{Planes, planes_of}
+use Rattle.canvas.specs.Drawing.{Pictures}
+use Rattle.h265_model.specs.declared.memory.NoMemory.{NoMemory as Refused}
 use Rattle.stream_decode.specs.Readings.{Rest, is_hash_refused, with_shown, rest_of}
 use Rattle.stream_decode.specs.declared.error.DecodeError.{DecodeError}
 use Rattle.stream_decode.specs.declared.error.DecodeError.TheVariants.{BadStream, NoMemory}
@@ -65,3 +67,17 @@ PassesHash (Err (BadStream at)) picture old new =
     (size : Size) (segments : Bool) (poc : ℕ) → let now : Decoded = record { poc = poc; planes = planes_of picture } in
     after_picture size segments now old ≡ failing at
 PassesHash (Err NoMemory) picture old new = Unit {0}
+
+-- a picture of one slice was read, and is the last one now, or nothing is read of these bytes
+abbrev pub ReadsSlicePicture : Result (Option ℕ) Refused → Option Stand → Pictures → Pictures → Type 0
+ReadsSlicePicture (Ok (Some poc)) step old new =
+    (step ≡ Some (right_after (record { poc = poc; planes = planes_of new.last }))) × (new.drawn ≡ old.last)
+ReadsSlicePicture (Ok None) step old new = (step ≡ None) × (new.last ≡ old.last)
+ReadsSlicePicture (Err _) step old new = new.last ≡ old.last
+
+-- a picture was read, and is the last one now, or a NAL unit fails
+abbrev pub ReadsPicture : Result ℕ DecodeError → Size → Bool → Option Decoded → Units → Units → Pictures → Pictures → Type 0
+ReadsPicture (Ok poc) size segments last from to old new =
+    (rest size segments (between last) from ≡ after_picture size segments (record { poc = poc; planes = planes_of new.last }) to) × (new.drawn ≡ old.last)
+ReadsPicture (Err (BadStream at)) size segments last from to old new = (rest size segments (between last) from ≡ failing at) × (new.last ≡ old.last)
+ReadsPicture (Err NoMemory) size segments last from to old new = new.last ≡ old.last

@@ -1,8 +1,11 @@
 //! Streams of pictures, read one picture after another (Rec. ITU-T H.265, clause 8).
 #![tactic(auto)]
 
+mod cursor;
 mod error;
+mod hash;
 mod laws;
+mod picture;
 mod reader;
 
 pub use error::DecodeError;
