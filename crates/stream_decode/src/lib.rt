@@ -7,6 +7,9 @@ mod hash;
 mod laws;
 mod picture;
 mod reader;
+mod segments;
+mod sets;
+mod whole;
 
 pub use error::DecodeError;
 pub use laws::each_reading_is_decoding;
