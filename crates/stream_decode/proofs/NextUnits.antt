@@ -1,6 +1,6 @@
 -- What follows a picture: its hash, or another NAL unit.
-use Rattle.std.proofs.Common.{◌≡◌, refl, sym, ◌∙◌, ap, ℕ, ◌+◌, Bool, true, false, cond, List, [], ◌∷◌, ◌++◌}
-use Rattle.std.specs.Prelude.{◌≢◌, ◌↔◌, ◌&&◌, IsTrue, not, Option, Some, None, bytes_eq, is_some}
+use Rattle.std.proofs.Common.{◌≡◌, refl, sym, ◌∙◌, ap, subst, ℕ, ◌+◌, Bool, true, false, cond, List, [], ◌∷◌, ◌++◌}
+use Rattle.std.specs.Prelude.{◌≢◌, ◌↔◌, ◌&&◌, IsTrue, not, Option, Some, None, MatchOption, bytes_eq, is_some}
 use Rattle.std.proofs.lemmas.Slice.Eq.{bytes_eq-Decides}
 use Rattle.h265_model.specs.Plain.{Size}
 use Rattle.h265_model.specs.Raster.{Raster}
@@ -133,3 +133,12 @@ other_fails size segments last number unit units idr trail =
     go false true h first second = absurd (trail (second refl))
     go false false true first second = refl
     go false false false first second = refl
+
+-- ---- what was taken, by its header
+
+-- a NAL unit was taken
+pub unit_taken : (found : Option (List ℕ)) (header rbsp : List ℕ) (from to : Units) → found ≡ Some header
+    → MatchOption found ((from.list ≡ []) × (to ≡ from)) (λ h. (from.list ≡ record { header = h; rbsp = rbsp } ∷ to.list) × (to.number ≡ from.number + 1))
+    → (from.list ≡ record { header = header; rbsp = rbsp } ∷ to.list) × (to.number ≡ from.number + 1)
+unit_taken found header rbsp from to is taken =
+    subst (λ (o : Option (List ℕ)). MatchOption o ((from.list ≡ []) × (to ≡ from)) (λ h. (from.list ≡ record { header = h; rbsp = rbsp } ∷ to.list) × (to.number ≡ from.number + 1))) is taken

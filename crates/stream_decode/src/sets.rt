@@ -1,6 +1,6 @@
 //! The parameter sets at the front of a stream.
 ghost use Rattle.std.specs.Prelude.{◌≡◌};
-ghost use Rattle.stream_decode.specs.Steps.{ReadsSets, TakesUnit};
+ghost use Rattle.stream_decode.specs.Sets.{ReadsSets, TakesUnit};
 
 use crate::DecodeError;
 use crate::cursor::Cursor;

@@ -1,5 +1,5 @@
 //! The next picture, whatever NAL units it has.
-ghost use Rattle.std.specs.Prelude.{◌≡◌, ◌<◌, Some, IfOk, IfSome};
+ghost use Rattle.std.specs.Prelude.{◌≡◌, ◌≢◌, ◌<◌, true, false, Some, IfOk, IfSome, MatchOption};
 ghost use Rattle.h265_model.specs.Stream.{nal_header};
 ghost use Rattle.annexb.specs.Walks.{first_header};
 ghost use Rattle.stream_decode.specs.Steps.{ReadsPicture, last_of};
@@ -11,6 +11,19 @@ use crate::segments::read_segments_picture;
 use canvas::Canvas;
 use motion_grid::MotionGrid;
 use std::alloc::Global;
+
+/// Whether a NAL unit with this header is one of an IDR picture (`true`) or of another one (`false`), if it is one of a picture at all (7.4.2.2).
+pub(crate) fn idr_of(header: [u8; 2]) -> Option<bool>
+    ensures { MatchOption result ((header ≢ nal_header true) × (header ≢ nal_header false)) (λ idr. header ≡ nal_header idr) }
+{
+    if header == [0x28, 1] {
+        return Some(true);
+    }
+    if header == [0x02, 1] {
+        return Some(false);
+    }
+    None
+}
 
 /// Reads the next picture from its NAL units, in one slice or with a segment for each row, and keeps it as the last picture: answers its order count. The
 /// first NAL unit has the header of an IDR picture where `idr` is true, else that of another one.
