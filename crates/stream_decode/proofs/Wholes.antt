@@ -69,7 +69,7 @@ within n x h = omega arith
 pub raster_shown : (p : Planes) → crop p.size (stored_picture p.size (planes_of p)) ≡ raster_of p
 unfolding crop
 raster_shown p =
-    same_places {Rgb} p.size.w p.size.h _ _ (λ x y hx hy.
+    same_places {A = Rgb} p.size.w p.size.h _ _ (λ x y hx hy.
     let wide : x < coded p.size.w = within p.size.w x hx in
     let high : y < coded p.size.h = within p.size.h y hy in
     let r = stored_at p 2 x y (omega arith) wide high in
