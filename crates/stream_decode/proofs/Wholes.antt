@@ -1,14 +1,14 @@
 -- The next picture, and what was read of a stream after it.
-use Rattle.std.proofs.Common.{◌≡◌, refl, sym, ◌∙◌, ap, subst, ℕ, zero, suc, ◌+◌, ◌*◌, ◌<◌, ◌≤◌, Bool, true, false, List, [], ◌∷◌, ◌++◌, arith}
+use Rattle.std.proofs.Common.{◌≡◌, refl, sym, ◌∙◌, ap, subst, ℕ, ◌+◌, ◌<◌, Bool, true, false, List, [], ◌∷◌, arith}
 use Rattle.std.specs.Prelude.{◌≢◌, Option, Some, None, MatchOption}
 use Rattle.h265_model.specs.declared.rgb.Rgb.{Rgb}
-use Rattle.h265_model.specs.Plain.{Size, Picture, coded, place_values}
+use Rattle.h265_model.specs.Plain.{Size, coded}
 use Rattle.h265_model.specs.Raster.{Raster, crop, stored_picture}
 use Rattle.h265_model.specs.NalUnits.{NalUnit}
 use Rattle.h265_model.specs.Stream.{nal_header}
 use Rattle.h265_model.specs.Decode.{Stand, Decoded, step, slice_step, picture_step, decoded_picture}
 use Rattle.h265_model.proofs.Squares.{same_places}
-use Rattle.px_plane.specs.Planes.{Planes, planes_of, picture_of}
+use Rattle.px_plane.specs.Planes.{Planes, planes_of}
 use Rattle.px_plane.proofs.Shown.{stored_at}
 use Rattle.annexb.specs.Walks.{first_header}
 use Rattle.stream_decode.specs.Readings.{Rest, Reading, reading, rest_of, raster_of}

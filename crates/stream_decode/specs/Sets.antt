@@ -1,5 +1,5 @@
 -- The parameter sets at the front of a stream.
-use Rattle.std.specs.Prelude.{◌≡◌, ◌+◌, ℕ, [], ◌∷◌, drop, Result, Ok, Err}
+use Rattle.std.specs.Prelude.{◌≡◌, ◌+◌, [], ◌∷◌, drop, Result, Ok, Err}
 use Rattle.h265_model.specs.NalUnits.{NalUnit}
 use Rattle.h265_model.specs.Decode.{sets_or_number}
 use Rattle.param_sets.specs.declared.writing.Params.{Params}

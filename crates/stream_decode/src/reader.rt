@@ -102,8 +102,25 @@ impl<'a> Reader<'a> {
                 at: cursor.number(),
             });
         };
-        let Reader { alloc, segments, order, canvas, motion, rbsp, .. } = self;
-        let poc = read_picture(*alloc, *segments, idr, *order, motion, canvas, &mut cursor, rbsp)?;
+        let Reader {
+            alloc,
+            segments,
+            order,
+            canvas,
+            motion,
+            rbsp,
+            ..
+        } = self;
+        let poc = read_picture(
+            *alloc,
+            *segments,
+            idr,
+            *order,
+            motion,
+            canvas,
+            &mut cursor,
+            rbsp,
+        )?;
         if let Err(error) = pass_hash(*alloc, canvas.last(), &mut cursor, rbsp) {
             canvas.keep();
             return Err(error);

@@ -1,9 +1,7 @@
-use Rattle.std.proofs.Common.{◌≡◌, sym, ◌∙◌, ap, subst, ℕ, ◌+◌, Bool, true, false, List, [], ◌∷◌}
+use Rattle.std.proofs.Common.{◌≡◌, sym, ◌∙◌}
 use Rattle.std.specs.Prelude.{◌↔◌, IsTrue}
-use Rattle.h265_model.specs.NalUnits.{NalUnit}
 use Rattle.h265_model.specs.Hash.{hash_of_planes}
 use Rattle.px_plane.specs.Planes.{planes_of}
-use Rattle.stream_decode.specs.Steps.{is_hash_next}
 use Rattle.stream_decode.proofs.NextUnits.{no_hash, taken_passes, taken_fails, unit_taken}
 use Rattle.stream_decode.proofs.hash.pass_hash.Goals as goal
 

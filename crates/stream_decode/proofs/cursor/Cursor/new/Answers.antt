@@ -1,4 +1,4 @@
-use Rattle.std.proofs.Common.{◌<◌, length, arith}
+use Rattle.std.proofs.Common.{arith}
 use Rattle.stream_decode.proofs.Counts.{few_units}
 use Rattle.stream_decode.proofs.cursor.Cursor.new.Goals as goal
 

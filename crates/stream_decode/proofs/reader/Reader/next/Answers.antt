@@ -1,4 +1,4 @@
-use Rattle.std.proofs.Common.{◌≡◌, sym, ◌∙◌, ap, subst, ℕ, List}
+use Rattle.std.proofs.Common.{◌≡◌, sym, ◌∙◌, ap, subst}
 use Rattle.std.specs.Prelude.{Some, None, Option, Result, Ok}
 use Rattle.h265_model.specs.Plain.{Size}
 use Rattle.h265_model.specs.Decode.{Decoded}
