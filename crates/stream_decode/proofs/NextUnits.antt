@@ -98,9 +98,6 @@ hash_fails size segments now number unit units header other =
 header_is : (list more : List NalUnit) (unit : NalUnit) → is_hash_next list ≡ true → list ≡ unit ∷ more → unit.header ≡ hash_header
 header_is list more unit next is = (bytes_eq-Decides unit.header hash_header).0 (sym (ap is_hash_next is) ∙ next)
 
-pub none_next : (list : List NalUnit) → is_hash_next list ≡ true → list ≢ []
-none_next list next is = let e : false ≡ true = sym (ap is_hash_next is) ∙ next in absurd (cc)
-
 pub taken_passes : (size : Size) (segments : Bool) (now : Decoded) (from to : Units) (unit : NalUnit) (fits : Bool) → is_hash_next from.list ≡ true → from.list ≡ unit ∷ to.list → to.number ≡ from.number + 1
     → IsTrue fits ↔ (unit.rbsp ≡ hash_of_planes now.planes) → fits ≡ true → after_picture size segments now from ≡ picture_first size segments now to
 taken_passes size segments now from to unit fits next is number same true_ =

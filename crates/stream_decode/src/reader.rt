@@ -48,8 +48,8 @@ impl<'a> Reader<'a> {
     ///
     /// # Errors
     ///
-    /// `BadStream` with the number of the place in the byte stream that is no NAL unit, of NAL units where there are fewer than three, or of
-    /// the parameter set that fails; `NoMemory`.
+    /// `BadStream` with the number of the place in the byte stream that is no NAL unit, of NAL units where there are fewer
+    /// than three, or of the parameter set that fails; `NoMemory`.
     pub fn new(alloc: Global, bytes: &'a [u8]) -> Result<Reader<'a>, DecodeError>
         requires { length bytes.now < 2 ^ 32 }
         ensures { Opens (reading_of bytes.now) result }
@@ -88,8 +88,8 @@ impl<'a> Reader<'a> {
     ///
     /// # Errors
     ///
-    /// `BadStream` with the number of the NAL unit that fails, or of all of them where the stream ends within a picture; `NoMemory`. In
-    /// both cases nothing has changed, and so a stream that failed fails again.
+    /// `BadStream` with the number of the NAL unit that fails, or of all of them where the stream ends within a picture;
+    /// `NoMemory`. In both cases nothing has changed, and so a stream that failed fails again.
     pub fn next(&mut self) -> Result<bool, DecodeError>
         ensures { ReadsOn result self.old self.new }
     {

@@ -12,7 +12,8 @@ use canvas::Canvas;
 use motion_grid::MotionGrid;
 use std::alloc::Global;
 
-/// Whether a NAL unit with this header is one of an IDR picture (`true`) or of another one (`false`), if it is one of a picture at all (7.4.2.2).
+/// Whether a NAL unit with this header is one of an IDR picture (`true`) or of another one (`false`), if it is one of a
+/// picture at all (7.4.2.2).
 pub(crate) fn idr_of(header: [u8; 2]) -> Option<bool>
     ensures { MatchOption result ((header ≢ nal_header true) × (header ≢ nal_header false)) (λ idr. header ≡ nal_header idr) }
 {
@@ -25,10 +26,12 @@ pub(crate) fn idr_of(header: [u8; 2]) -> Option<bool>
     None
 }
 
-/// Reads the next picture from its NAL units, in one slice or with a segment for each row, and keeps it as the last picture: answers its order count. The
-/// first NAL unit has the header of an IDR picture where `idr` is true, else that of another one.
+/// Reads the next picture from its NAL units, in one slice or with a segment for each row, and keeps it as the last
+/// picture: answers its order count. The first NAL unit has the header of an IDR picture where `idr` is true, else that of
+/// another one. `rbsp` is room for the payload of one, and its old bytes go.
 ///
-/// `BadStream` names the NAL unit that fails or is missing. After that, and after `NoMemory`, the last picture is as before.
+/// `BadStream` names the NAL unit that fails or is missing. After that, and after `NoMemory`, the last picture is as
+/// before.
 pub(crate) fn read_picture(
     alloc: Global,
     segments: bool,
