@@ -1,0 +1,5 @@
+pub mod Counts
+pub mod Decoding
+pub mod NextUnits
+pub mod SlicePictures
+pub mod Wholes

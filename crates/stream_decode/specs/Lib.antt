@@ -1,0 +1,5 @@
+pub mod Answers
+pub mod Laws
+pub mod Readings
+pub mod Sets
+pub mod Steps
