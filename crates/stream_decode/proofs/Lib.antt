@@ -2,4 +2,5 @@ pub mod Counts
 pub mod Decoding
 pub mod NextUnits
 pub mod SlicePictures
+pub mod WholePictures
 pub mod Wholes

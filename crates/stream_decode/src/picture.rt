@@ -1,6 +1,5 @@
 //! A picture of one slice.
 ghost use Rattle.std.specs.Prelude.{◌≡◌, ◌<◌, IfOk, IfSome};
-ghost use Rattle.h265_model.specs.Plain.{ctus};
 ghost use Rattle.h265_model.specs.Decode.{slice_step, is_next};
 ghost use Rattle.h265_model.specs.Stream.{slice_kind};
 ghost use Rattle.px_plane.specs.Planes.{Planes};
@@ -9,6 +8,9 @@ ghost use Rattle.stream_decode.specs.Steps.{ReadsSlicePicture, last_of, between}
 use canvas::Canvas;
 use h265_model::{NoMemory, SliceKind};
 use motion_grid::MotionGrid;
+use pu_code::Grid;
+use slice_head::{HeadError, read_head};
+use slice_read::read_slice;
 use std::alloc::Global;
 
 /// The kind of a picture's slice: an IDR picture's has no motion (7.4.7.1).
@@ -49,5 +51,34 @@ pub(crate) fn read_slice_picture(
     ensures motion { motion.new.size ≡ motion.old.size }
     ensures size { canvas.new.last.size ≡ canvas.old.last.size }
 {
-    Err(NoMemory)
+    let size = canvas.last().size();
+    let rows = (size.h() + 31) / 32;
+    let (head, start) = match read_head(alloc, rbsp, idr, rows) {
+        Ok(found) => found,
+        Err(HeadError::BadHead { .. }) => return Ok(None),
+        Err(HeadError::NoMemory) => return Err(NoMemory),
+    };
+    let poc = head.poc;
+    if !is_next(idr, order, poc) {
+        return Ok(None);
+    }
+    let mut grid = Grid::new(alloc, size)?;
+    motion.clear();
+    canvas.begin();
+    let data = &rbsp[start as usize..];
+    match read_slice(
+        slice_kind(idr),
+        size,
+        &mut grid,
+        motion,
+        head.offsets.as_slice(),
+        data,
+        canvas,
+    ) {
+        None => Ok(None),
+        Some(()) => {
+            canvas.keep();
+            Ok(Some(poc))
+        }
+    }
 }
