@@ -14,3 +14,6 @@ mod whole;
 pub use error::DecodeError;
 pub use laws::each_reading_is_decoding;
 pub use reader::Reader;
+
+#[cfg(test)]
+mod tests;
