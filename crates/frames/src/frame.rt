@@ -9,10 +9,14 @@ use h265_model::NoMemory;
 use itoa::Buffer;
 use px_plane::Picture;
 
-/// Appends a picture as a frame: P6, its sides, 255, and its pixels R, G, B in rows from the top, without the padding
-/// (binary PPM).
+/// Appends a picture as a binary PPM image: `P6`, its sides and 255 in decimal, and then R, G and B of each place, a byte
+/// each, in rows from the top.
 ///
-/// After `NoMemory` the bytes are as they were.
+/// The samples outside the desktop, up to the coded size, are left out (7.4.3.2.1).
+///
+/// # Errors
+///
+/// `NoMemory` where the allocator refuses room for it. The bytes are then as they were.
 pub fn append_frame(out: &mut Vec<u8>, picture: &Picture) -> Result<(), NoMemory>
     ensures ok { OnOk result (out.new.items ≡ out.old.items ++ frame picture.now.size (crop picture.now.size (picture_of picture.now))) }
     ensures err { OnErr result (out.new.items ≡ out.old.items) }
@@ -27,6 +31,7 @@ pub fn append_frame(out: &mut Vec<u8>, picture: &Picture) -> Result<(), NoMemory
     }
 }
 
+// The head and all rows. After an error a part of them may be left.
 fn append_parts(out: &mut Vec<u8>, picture: &Picture) -> Result<(), NoMemory>
     ensures ok { OnOk result (out.new.items ≡ out.old.items ++ frame picture.now.size (crop picture.now.size (picture_of picture.now))) }
     ensures kept { Begins out.old.items out.new.items }
@@ -36,6 +41,7 @@ fn append_parts(out: &mut Vec<u8>, picture: &Picture) -> Result<(), NoMemory>
     append_rows(out, picture)
 }
 
+// `P6`, the two sides and the greatest value, a line each.
 fn append_head(out: &mut Vec<u8>, w: u32, h: u32) -> Result<(), NoMemory>
     ensures ok { OnOk result (out.new.items ≡ out.old.items ++ frame_head (record { w = w; h = h })) }
     ensures kept { Begins out.old.items out.new.items }
@@ -58,7 +64,12 @@ fn append_rows(out: &mut Vec<u8>, picture: &Picture) -> Result<(), NoMemory>
     let w = size.w();
     out.reserve(3 * w as usize * size.h() as usize)?;
     for y in 0..size.h() {
-        append_row(out, picture.row(2, 0, y, w), picture.row(0, 0, y, w), picture.row(1, 0, y, w))?;
+        append_row(
+            out,
+            picture.row(2, 0, y, w),
+            picture.row(0, 0, y, w),
+            picture.row(1, 0, y, w),
+        )?;
     }
     Ok(())
 }

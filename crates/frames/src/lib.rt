@@ -5,3 +5,6 @@ mod frame;
 
 pub use frame::append_frame;
 pub use h265_model::NoMemory;
+
+#[cfg(test)]
+mod tests;

@@ -1,4 +1,4 @@
-use Rattle.std.proofs.Common.{ℕ, ◌≡◌, ◌∙◌, ap, arith}
+use Rattle.std.proofs.Common.{◌≡◌, ◌∙◌, ap, arith}
 use Rattle.px_plane.specs.Planes.{picture_of}
 use Rattle.h265_model.specs.Plain.{Size}
 use Rattle.frames.proofs.Mixes.{row-more, rows-all}
