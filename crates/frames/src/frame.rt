@@ -9,8 +9,8 @@ use h265_model::NoMemory;
 use itoa::Buffer;
 use px_plane::Picture;
 
-/// Appends a picture as a binary PPM image: `P6`, its sides and 255 in decimal, and then R, G and B of each place, a byte
-/// each, in rows from the top.
+/// Appends a picture as a binary PPM image: `P6`, its sides and 255 in decimal, and then R, G and B of each place, a
+/// byte each, in rows from the top.
 ///
 /// The samples outside the desktop, up to the coded size, are left out (7.4.3.2.1).
 ///
