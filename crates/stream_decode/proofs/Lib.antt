@@ -1,3 +1,4 @@
 pub mod Decoding
 pub mod NextUnits
 pub mod SlicePictures
+pub mod SegmentPictures

@@ -1,4 +1,5 @@
 pub mod Answers
 pub mod Laws
 pub mod Readings
+pub mod Rows
 pub mod Steps
