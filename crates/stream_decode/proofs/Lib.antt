@@ -1,6 +1,7 @@
 pub mod Counts
 pub mod Decoding
 pub mod NextUnits
+pub mod SegmentPictures
 pub mod SlicePictures
 pub mod WholePictures
 pub mod Wholes
