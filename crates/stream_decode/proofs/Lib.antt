@@ -3,5 +3,4 @@ pub mod Decoding
 pub mod NextUnits
 pub mod SegmentPictures
 pub mod SlicePictures
-pub mod WholePictures
 pub mod Wholes

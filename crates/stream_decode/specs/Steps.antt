@@ -1,9 +1,9 @@
 -- Reading on from one NAL unit to the next.
-use Rattle.std.specs.Prelude.{◌≡◌, ◌+◌, ℕ, Bool, true, false, ◌&&◌, List, [], ◌∷◌, ◌++◌, drop, length, Option, Some, None, option_map, Result, Ok, Err, bytes_eq}
+use Rattle.std.specs.Prelude.{◌≡◌, ℕ, Bool, true, false, List, [], ◌∷◌, ◌++◌, Option, Some, None, option_map, Result, Ok, Err, bytes_eq}
 use Rattle.h265_model.specs.Plain.{Size}
 use Rattle.h265_model.specs.NalUnits.{NalUnit}
 use Rattle.h265_model.specs.Hash.{hash_header}
-use Rattle.h265_model.specs.Decode.{Stand, Decoded, sets_or_number, shown}
+use Rattle.h265_model.specs.Decode.{Stand, Decoded, shown}
 use Rattle.px_plane.specs.Planes.{Planes, planes_of}
 use Rattle.canvas.specs.Drawing.{Pictures}
 use Rattle.h265_model.specs.declared.memory.NoMemory.{NoMemory as Refused}
