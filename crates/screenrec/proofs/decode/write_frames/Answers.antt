@@ -39,6 +39,12 @@ loop-count-preserved g c =
       reads = c.in-Ok-Some.ensures.reads ∙ so_far.reads;
     }
 
+pub returns-in-Ok-None-clause-pictures : goal.returns-in-Ok-None-clause-pictures
+returns-in-Ok-None-clause-pictures g c =
+    let ps = c.args.reader.pictures in
+    let none : c.loop-count.reader.pictures ≡ [] = rw c.in-Ok-None.field-0-is at c.in-Ok-None.ensures.read in
+    omega (arith, c.loop-count.invariant.few, (all_taken ps c.loop-count.pictures (sym c.loop-count.invariant.rest ∙ none)).1)
+
 pub returns-in-Ok-None-clause-files : goal.returns-in-Ok-None-clause-files
 returns-in-Ok-None-clause-files g c =
     let ps = c.args.reader.pictures in
