@@ -50,7 +50,7 @@ static inline int renormalise(struct window *w, uint32_t range) {
 // a bin, or -1 where the bits end
 static inline int read_context(struct window *w, int n) {
   int state = w->contexts[n], likely = state & 1;
-  uint32_t small = LPS[state >> 1][w->range >> 6 & 3], large = w->range - small;
+  uint32_t small = LPS[state >> 1] >> (w->range >> 3 & 24) & 255, large = w->range - small;
   if (w->value < (uint64_t)large << 54) {
     w->contexts[n] = NEXT[2 * state + likely];
     return renormalise(w, large) ? likely : -1;

@@ -1,4 +1,4 @@
-"""What a tool says on its standard streams, which may be closed, full, or left by who reads them."""
+"""What a tool says on its standard streams, which may be closed, full, or left by who reads them; and files without a buffer."""
 import os
 import sys
 
@@ -27,3 +27,10 @@ def tell(text):
         # What is left in the buffer goes nowhere, so that nothing more is said at the end.
         os.dup2(os.open(os.devnull, os.O_WRONLY), sys.stdout.fileno())
         raise NotTold(f"standard output: {fault.strerror}") from None
+
+
+def write_whole(file, text):
+    """Writes all of a text to a file without a buffer."""
+    rest = memoryview(text)
+    while rest:
+        rest = rest[file.write(rest):]

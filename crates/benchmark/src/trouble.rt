@@ -11,7 +11,7 @@ pub enum Trouble {
     Host(#[from] io::Error),
     #[error("no memory")]
     NoMemory,
-    #[error("the groups are units, planes, scripts, coder, decoder, levels and blocks")]
+    #[error("the groups are units, planes, scripts, coder, decoder, levels and blocks, and walk or streams with a file")]
     NoSuchGroup,
     #[error("a crate refused what it must take")]
     Refused,

@@ -40,8 +40,9 @@ pub(crate) fn side_of(log2: u32) -> u32
     }
 }
 
-// The cheapest of the modes and PCM, where it costs less than `limit`.
-fn coded_leaf(now: &Picture, effort: u32, block: CodingBlock, limit: u32) -> Option<Best>
+/// The cheapest coding unit of a block of the coded picture but a skip, where it costs less than `limit`: one of the
+/// modes that the effort (0 to 2) names, or samples.
+pub fn coded_leaf(now: &Picture, effort: u32, block: CodingBlock, limit: u32) -> Option<Best>
     requires effort { effort ≤ 2 }
     requires low { 3 ≤ block.log2 }
     requires high { block.log2 ≤ 5 }

@@ -9,6 +9,7 @@ mod split;
 
 pub use bin_items::Leaves;
 pub use choose::plan_ctu;
+pub use leaf::coded_leaf;
 
 #[cfg(test)]
 mod tests;

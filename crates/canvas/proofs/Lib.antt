@@ -1,3 +1,4 @@
 mod Sums
 mod Units
 mod Components
+mod Marking

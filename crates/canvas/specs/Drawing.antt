@@ -2,7 +2,7 @@
 use Rattle.std.specs.Prelude.{◌≡◌, ◌<◌, ◌≤◌, ℕ, suc, ◌+◌, ◌^◌, true, List, Option, None, ℤ, pos, negsuc}
 use Rattle.std.specs.List.{AllByRecursion}
 use Rattle.h265_model.specs.declared.moves.Vector.{Vector}
-use Rattle.h265_model.specs.Plain.{block_at, Size, Picture}
+use Rattle.h265_model.specs.Plain.{Size, Picture}
 use Rattle.h265_model.specs.Motion.{moved}
 use Rattle.h265_model.specs.Predict.{is_inside, prediction}
 use Rattle.h265_model.specs.Raster.{blank}

@@ -3,6 +3,7 @@
 
 mod canvas;
 mod levels;
+mod marks;
 mod predicted;
 mod side;
 mod source;

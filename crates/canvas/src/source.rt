@@ -1,7 +1,10 @@
 //! Where a block is copied from.
 ghost use Rattle.std.specs.Prelude.{◌≡◌};
 ghost use Rattle.h265_model.specs.Motion as motion;
+ghost use Rattle.h265_model.specs.Motion.{is_vector, no_motion};
 ghost use Rattle.canvas.specs.Drawing.{CanMove};
+
+use h265_model::Vector;
 
 /// A coordinate after a vector's.
 #[inline(always)]
@@ -14,4 +17,12 @@ pub(crate) fn moved(at: u32, by: i32) -> u32
     } else {
         at + by as u32
     }
+}
+
+/// Whether a vector leads to the same place.
+#[inline(always)]
+pub(crate) fn is_still(vector: Vector) -> bool
+    ensures { result ≡ is_vector vector no_motion }
+{
+    vector.x == 0 && vector.y == 0
 }

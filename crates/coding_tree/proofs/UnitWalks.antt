@@ -28,7 +28,7 @@ not_later (suc zero) x y u v h cx cy a b c d e f g = omega arith
 not_later (suc (suc depth)) x y u v h cx cy a b c d e f g = absurd (omega arith)
 
 -- none that it doesn't lie at the corner of
-begins_later : (depth x y : ℕ) (leaf : Leaf) → depth < 2 → IsCorner (2 ^ (4 + depth)) x y → IsLater (2 ^ (4 + depth)) x y leaf → begins leaf (4 + depth) ≡ false
+pub begins_later : (depth x y : ℕ) (leaf : Leaf) → depth < 2 → IsCorner (2 ^ (4 + depth)) x y → IsLater (2 ^ (4 + depth)) x y leaf → begins leaf (4 + depth) ≡ false
 begins_later depth x y leaf h c l =
     no_corner (nat_le leaf.block.log2 (4 + depth)) (leaf.block.x % 2 ^ (4 + depth) == 0) (leaf.block.y % 2 ^ (4 + depth) == 0)
     (λ p q. not_later depth x y leaf.block.x leaf.block.y h c.column c.row l.within.left l.within.right l.within.top l.within.bottom l.after (eqb-true _ _ p) (eqb-true _ _ q))
@@ -50,7 +50,7 @@ begins_smaller log2 leaf h = go (nat_le leaf.block.log2 log2) refl
 -- ---- units one by one
 
 -- the flags of the blocks up to a depth, from that of the largest on
-flags_to : Size → List Leaf → Leaf → ℕ → List Item
+unfoldable pub flags_to : Size → List Leaf → Leaf → ℕ → List Item
 flags_to size before leaf zero = []
 flags_to size before leaf (suc depth) = flag_items size before leaf (4 + depth) ++ flags_to size before leaf depth
 
@@ -99,7 +99,7 @@ parts_later kind size source depth x y before (leaf ∷ leaves) h c all =
     (no_flag size before leaf (4 + depth) (begins_later depth x y leaf h c all.0))
     ∙ ap (λ (l : List Item). (flags_to size before leaf depth ++ coding_unit_items kind source before leaf) ++ l) (parts_later kind size source depth x y (before ++ leaf ∷ []) leaves h c all.1)
 
-first_flag : (size : Size) (before : List Leaf) (leaf : Leaf) (log2 x y : ℕ) → leaf.block.log2 ≤ log2 → leaf.block.x ≡ x → leaf.block.y ≡ y → IsCorner (2 ^ log2) x y
+pub first_flag : (size : Size) (before : List Leaf) (leaf : Leaf) (log2 x y : ℕ) → leaf.block.log2 ≤ log2 → leaf.block.x ≡ x → leaf.block.y ≡ y → IsCorner (2 ^ log2) x y
     → flag_items size before leaf log2 ≡ split_items size before (block_at x y log2) (nat_lt leaf.block.log2 log2)
 unfolding flag_items
 first_flag size before leaf log2 x y small ex ey c =
@@ -122,7 +122,7 @@ parts_block kind size source depth x y before leaves h c b =
     ∙ (append_assoc flag (flags ++ unit) more ∙ ap (λ (l : List Leaf). flag ++ parts kind size source depth before l) (sym b.is)))))
 
 -- a unit that is as large as the block has no flags of smaller blocks
-no_flags : (size : Size) (before : List Leaf) (leaf : Leaf) (depth : ℕ) → 3 + depth < leaf.block.log2 → flags_to size before leaf depth ≡ []
+pub no_flags : (size : Size) (before : List Leaf) (leaf : Leaf) (depth : ℕ) → 3 + depth < leaf.block.log2 → flags_to size before leaf depth ≡ []
 unfolding flags_to
 no_flags size before leaf zero h = refl
 no_flags size before leaf (suc depth) h =
@@ -200,22 +200,22 @@ parts_four kind size source depth before a b c d =
 
 -- ---- a block
 
-same_first : (leaves : List Leaf) (a b : Leaf) (as_ bs : List Leaf) → leaves ≡ a ∷ as_ → leaves ≡ b ∷ bs → a ≡ b
+pub same_first : (leaves : List Leaf) (a b : Leaf) (as_ bs : List Leaf) → leaves ≡ a ∷ as_ → leaves ≡ b ∷ bs → a ≡ b
 same_first leaves a b as_ bs e f = ap (λ (l : List Leaf). get_or l 0 a) (sym e ∙ f)
 
-not_less : (a b : ℕ) → a ≡ b → nat_lt a b ≡ false
+pub not_less : (a b : ℕ) → a ≡ b → nat_lt a b ≡ false
 not_less a b e = go (nat_lt a b) refl
   where
     go : (c : Bool) → nat_lt a b ≡ c → c ≡ false
     go true h = absurd (let k : a < b = ltb-true _ _ h in omega arith)
     go false h = refl
 
-flag_is : (size : Size) (before : List Leaf) (x y depth : ℕ) (split : Bool) → is_whole size (2 ^ (4 + depth)) x y ≡ true
+pub flag_is : (size : Size) (before : List Leaf) (x y depth : ℕ) (split : Bool) → is_whole size (2 ^ (4 + depth)) x y ≡ true
     → split_items size before (block_at x y (4 + depth)) split ≡ context_bin split (split_context before (block_at x y (4 + depth))) ∷ []
 flag_is size before x y depth split e =
     cond-false (4 + depth == 3) _ _ (ne_eqb (4 + depth) 3 (λ k. omega arith)) ∙ cond-true (is_whole size (2 ^ (4 + depth)) x y) _ _ e
 
-flag_inferred : (size : Size) (before : List Leaf) (x y depth : ℕ) (split : Bool) → is_whole size (2 ^ (4 + depth)) x y ≡ false → split_items size before (block_at x y (4 + depth)) split ≡ []
+pub flag_inferred : (size : Size) (before : List Leaf) (x y depth : ℕ) (split : Bool) → is_whole size (2 ^ (4 + depth)) x y ≡ false → split_items size before (block_at x y (4 + depth)) split ≡ []
 flag_inferred size before x y depth split e =
     cond-false (4 + depth == 3) _ _ (ne_eqb (4 + depth) 3 (λ k. omega arith)) ∙ cond-false (is_whole size (2 ^ (4 + depth)) x y) _ _ e
 

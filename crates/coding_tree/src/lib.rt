@@ -15,7 +15,7 @@ pub use leaf::write_leaf;
 pub use pu_code::Grid;
 pub use source::LevelSource;
 pub use split::write_split;
-pub use tree::write_ctu;
+pub use tree::{write_ctu, write_split_flags};
 
 #[cfg(test)]
 mod tests;

@@ -70,8 +70,11 @@ fn write_unit<S: BinSink, V: LevelSource>(
     write_leaf(sink, kind, grid, leaf, source)
 }
 
-// Writes the flags of the blocks that begin with this unit, from that of the largest on.
-fn write_split_flags<S: BinSink>(
+/// Writes split_cu_flag of the blocks that begin with a coding unit, from that of the largest on (7.3.8.4).
+///
+/// The unit lies in the coded picture of this size, which is the grid's, at multiples of its side, and it is the next one of a lawful coding tree. After
+/// `NoMemory` a front of the flags was taken.
+pub fn write_split_flags<S: BinSink>(
     sink: &mut S,
     grid: &Grid,
     size: Size,

@@ -2,7 +2,8 @@
 use Rattle.std.proofs.Common.{◌≡◌, ℕ, true, false, List, [], ◌∷◌, length, refl, arith}
 use Rattle.std.specs.Prelude.{Option, None, bytes_eq, codes}
 use Rattle.std.specs.Borrow.{Bor}
-use Rattle.recorder_model.specs.Words.{Row, row_of, record_words, serial_words, demo_words, decode_words}
+use Rattle.h265_model.specs.declared.extra.Extra.TheVariants.{Plain, Hash, Segments}
+use Rattle.command_line.specs.Words.{Row, row_of, record_words, serial_words, demo_words, decode_words, hash_words, segments_words}
 use Rattle.command_line.specs.Views.{texts}
 
 pub no_words : (all : List (Bor (List ℕ))) → length all ≡ 0 → None ≡ row_of (texts all)
@@ -10,30 +11,42 @@ unfolding row_of
 no_words [] e = refl
 no_words (command ∷ words) e = absurd (omega arith)
 
-pub of_record : (all words : List (Bor (List ℕ))) (command : Bor (List ℕ)) (row : Option Row) → all ≡ command ∷ words →
-    bytes_eq command.now (codes "record") ≡ true → row ≡ record_words (texts words) → row ≡ row_of (texts all)
-unfolding row_of
-of_record all words command row e first r = rw (e, first) r
+-- words behind their first one
+module _ (all words : List (Bor (List ℕ))) (command : Bor (List ℕ)) (e : all ≡ command ∷ words) where
+  abbrev Is : List ℕ → Type 0
+  Is name = bytes_eq command.now name ≡ true
 
-pub of_serial : (all words : List (Bor (List ℕ))) (command : Bor (List ℕ)) (row : Option Row) → all ≡ command ∷ words →
-    bytes_eq command.now (codes "record") ≡ false → bytes_eq command.now (codes "serial") ≡ true → row ≡ serial_words (texts words) → row ≡ row_of (texts all)
-unfolding row_of
-of_serial all words command row e first second r = rw (e, first, second) r
+  abbrev IsNot : List ℕ → Type 0
+  IsNot name = bytes_eq command.now name ≡ false
 
-pub of_demo : (all words : List (Bor (List ℕ))) (command : Bor (List ℕ)) (row : Option Row) → all ≡ command ∷ words →
-    bytes_eq command.now (codes "record") ≡ false → bytes_eq command.now (codes "serial") ≡ false → bytes_eq command.now (codes "demo") ≡ true →
-    row ≡ demo_words (texts words) → row ≡ row_of (texts all)
-unfolding row_of
-of_demo all words command row e first second third r = rw (e, first, second, third) r
+  pub of_record : (row : Option Row) → Is (codes "record") → row ≡ record_words Plain (texts words) → row ≡ row_of (texts all)
+  unfolding row_of
+  of_record row first r = rw (e, first) r
 
-pub of_decode : (all words : List (Bor (List ℕ))) (command : Bor (List ℕ)) (row : Option Row) → all ≡ command ∷ words →
-    bytes_eq command.now (codes "record") ≡ false → bytes_eq command.now (codes "serial") ≡ false → bytes_eq command.now (codes "demo") ≡ false →
-    bytes_eq command.now (codes "decode") ≡ true → row ≡ decode_words (texts words) → row ≡ row_of (texts all)
-unfolding row_of
-of_decode all words command row e first second third fourth r = rw (e, first, second, third, fourth) r
+  pub of_serial : (row : Option Row) → IsNot (codes "record") → Is (codes "serial") → row ≡ serial_words Plain (texts words) → row ≡ row_of (texts all)
+  unfolding row_of
+  of_serial row first second r = rw (e, first, second) r
 
-pub of_none : (all words : List (Bor (List ℕ))) (command : Bor (List ℕ)) → all ≡ command ∷ words →
-    bytes_eq command.now (codes "record") ≡ false → bytes_eq command.now (codes "serial") ≡ false → bytes_eq command.now (codes "demo") ≡ false →
-    bytes_eq command.now (codes "decode") ≡ false → None ≡ row_of (texts all)
-unfolding row_of
-of_none all words command e first second third fourth = rw (e, first, second, third, fourth) refl
+  pub of_demo : (row : Option Row) → IsNot (codes "record") → IsNot (codes "serial") → Is (codes "demo") → row ≡ demo_words (texts words) → row ≡ row_of (texts all)
+  unfolding row_of
+  of_demo row first second third r = rw (e, first, second, third) r
+
+  pub of_decode : (row : Option Row) → IsNot (codes "record") → IsNot (codes "serial") → IsNot (codes "demo") → Is (codes "decode") →
+      row ≡ decode_words (texts words) → row ≡ row_of (texts all)
+  unfolding row_of
+  of_decode row first second third fourth r = rw (e, first, second, third, fourth) r
+
+  pub of_hash : (row : Option Row) → IsNot (codes "record") → IsNot (codes "serial") → IsNot (codes "demo") → IsNot (codes "decode") → Is (codes "hash") →
+      row ≡ hash_words (texts words) → row ≡ row_of (texts all)
+  unfolding row_of
+  of_hash row first second third fourth fifth r = rw (e, first, second, third, fourth, fifth) r
+
+  pub of_segments : (row : Option Row) → IsNot (codes "record") → IsNot (codes "serial") → IsNot (codes "demo") → IsNot (codes "decode") → IsNot (codes "hash") →
+      Is (codes "segments") → row ≡ segments_words (texts words) → row ≡ row_of (texts all)
+  unfolding row_of
+  of_segments row first second third fourth fifth sixth r = rw (e, first, second, third, fourth, fifth, sixth) r
+
+  pub of_none : IsNot (codes "record") → IsNot (codes "serial") → IsNot (codes "demo") → IsNot (codes "decode") → IsNot (codes "hash") → IsNot (codes "segments") →
+      None ≡ row_of (texts all)
+  unfolding row_of
+  of_none first second third fourth fifth sixth = rw (e, first, second, third, fourth, fifth, sixth) refl

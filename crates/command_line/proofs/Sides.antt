@@ -4,7 +4,7 @@ use Rattle.std.specs.Prelude.{None}
 use Rattle.std.specs.List.{slice_split, position_or_len, before_first, after_first}
 use Rattle.std.proofs.lemmas.List.Splits.{slice_split_none, slice_split_first, length-slice_split}
 use Rattle.std.proofs.lemmas.List.Sums.{fails_before_first}
-use Rattle.recorder_model.specs.Words.{size_parts}
+use Rattle.command_line.specs.Words.{size_parts}
 
 abbrev is_x : ℕ → Bool
 is_x c = c == 120

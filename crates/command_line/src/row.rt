@@ -1,4 +1,5 @@
 //! What the words of the command line ask for.
+use h265_model::Extra;
 use px_plane::Size;
 
 /// How a recording is coded.
@@ -10,6 +11,8 @@ pub struct Settings {
     pub effort: u32,
     /// How many pictures stand from one IDR picture to the next: at most 65535, and 0 for the first picture alone.
     pub key: u32,
+    /// What the stream has besides its pictures.
+    pub extra: Extra,
 }
 
 /// Record the scripts of 1 to 64 clients, each on a thread of its own.
@@ -46,9 +49,9 @@ pub struct DecodeWords<'a> {
 /// A row of the program's table of words.
 #[derive(Clone, Copy, Debug, PartialEq, Eq)]
 pub enum Row<'a> {
-    /// `record SIZE WORKERS EFFORT KEY OUT FILE..`
+    /// `record SIZE WORKERS EFFORT KEY OUT FILE..`, or these words after `hash`
     Record(RecordWords<'a>),
-    /// `serial SIZE EFFORT KEY OUT FILE`
+    /// `serial SIZE EFFORT KEY OUT FILE`, or these words after `hash` or `segments`
     Serial(SerialWords<'a>),
     /// `demo NUMBER`
     Demo(u64),

@@ -3,7 +3,7 @@ ghost use Rattle.std.specs.Prelude.{◌≡◌, ◌≤◌, ◌==◌, [], ◌∷�
 ghost use Rattle.std.specs.Option.{IfSome, MatchOption};
 ghost use Rattle.std.specs.List.{slice_split};
 ghost use Rattle.recorder_model.specs.Script.{number_up_to};
-ghost use Rattle.recorder_model.specs.Words.{size_parts, size_word};
+ghost use Rattle.command_line.specs.Words.{size_parts, size_word};
 
 use paint_script::number_up_to;
 use px_plane::Size;

@@ -1,9 +1,10 @@
 use crate::{Row, read_words};
+use h265_model::Extra;
 use std::alloc::{AllocError, Global};
 use std::test::Fail;
 
 // Words that are in no row.
-const REFUSED: [&[&str]; 33] = [
+const REFUSED: [&[&str]; 43] = [
     &[],
     &[""],
     &["help"],
@@ -37,6 +38,16 @@ const REFUSED: [&[&str]; 33] = [
     &["demo", "-1"],
     &["demo", "1", "2"],
     &["decode", "i"],
+    &["hash"],
+    &["hash", "32x32"],
+    &["hash", "decode", "i", "o"],
+    &["hash", "demo", "1"],
+    &["hash", "hash", "serial", "32x32", "0", "1", "o", "f"],
+    &["serial", "hash", "32x32", "0", "1", "o", "f"],
+    &["segments"],
+    &["segments", "serial", "32x64", "0", "1", "o", "f"],
+    &["segments", "record", "64x64", "1", "0", "1", "o", "f"],
+    &["hash", "segments", "serial", "64x64", "0", "1", "o", "f"],
 ];
 
 #[test]
@@ -56,8 +67,35 @@ fn words_of_serial(rt: HostRuntime) -> Result<(), Fail> {
     assert_eq!(rt; serial.settings.size.h(), 2160);
     assert_eq!(rt; serial.settings.effort, 2);
     assert_eq!(rt; serial.settings.key, 65_535);
+    assert_eq!(rt; serial.settings.extra, Extra::Plain);
     assert_eq!(rt; serial.out, "");
     assert_eq!(rt; serial.file, "in put");
+    Ok(())
+}
+
+#[test]
+fn words_in_front(rt: HostRuntime) -> Result<(), Fail> {
+    let rows = [
+        ("hash", "1x1", Extra::Hash),
+        ("segments", "33x1", Extra::Segments),
+    ];
+    for (kind, size, extra) in rows {
+        let words = [kind, "serial", size, "1", "2", "o", "f"];
+        let Some(Row::Serial(serial)) = read_words(&words) else {
+            return Err(Fail::from("serial"));
+        };
+        assert_eq!(rt; serial.settings.extra, extra);
+        assert_eq!(rt; serial.settings.effort, 1);
+        assert_eq!(rt; serial.settings.key, 2);
+        assert_eq!(rt; serial.file, "f");
+    }
+    let words = ["hash", "record", "8x9", "3", "1", "2", "o", "f", "g"];
+    let Some(Row::Record(record)) = read_words(&words) else {
+        return Err(Fail::from("record"));
+    };
+    assert_eq!(rt; record.settings.extra, Extra::Hash);
+    assert_eq!(rt; record.workers, 3);
+    assert_eq!(rt; record.files.len(), 2);
     Ok(())
 }
 

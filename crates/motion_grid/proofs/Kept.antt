@@ -30,15 +30,12 @@ first_three None (Some b) c = refl
 first_three (Some a) b c = refl
 
 -- the five neighbours that a merge vector may come from
-abbrev pub five : Cells → ℕ → ℕ → ℕ → Option Vector
-five g x y n = first_vector (kept_before g x (y + n) ∷ kept_before g (x + n) y ∷ kept_before g (x + n + 1) y ∷ kept_before g x (y + n + 1) ∷ kept_before g x y ∷ [])
+abbrev pub five : List Moving → ℕ → ℕ → ℕ → Option Vector
+five units x y n = first_vector (vector_before units x (y + n) ∷ vector_before units (x + n) y ∷ vector_before units (x + n + 1) y ∷ vector_before units x (y + n + 1) ∷ vector_before units x y ∷ [])
 
-pub merge_is : (g : Cells) (units : List Moving) (x y log2 : ℕ) → HasMotion g units
-    → or_none (first_vector (kept_before g x (y + 2 ^ log2) ∷ kept_before g (x + 2 ^ log2) y ∷ kept_before g (x + 2 ^ log2 + 1) y ∷ kept_before g x (y + 2 ^ log2 + 1) ∷ kept_before g x y ∷ []))
-    ≡ merge units (block_at x y log2)
+pub merge_is : (units : List Moving) (x y log2 : ℕ) → or_none (five units x y (2 ^ log2)) ≡ merge units (block_at x y log2)
 unfolding merge
-merge_is g units x y log2 has =
-    rw (before_is g units x (y + 2 ^ log2) has, before_is g units (x + 2 ^ log2) y has, before_is g units (x + 2 ^ log2 + 1) y has, before_is g units x (y + 2 ^ log2 + 1) has, before_is g units x y has) refl
+merge_is units x y log2 = refl
 
 pub predictors_are : (g : Cells) (units : List Moving) (x y log2 : ℕ) → HasMotion g units
     → two_of (option_or (kept_before g x (y + 2 ^ log2 + 1)) (kept_before g x (y + 2 ^ log2)))

@@ -1,13 +1,13 @@
 //! The motion of the coding units of a picture that are coded already.
-ghost use Rattle.std.specs.Prelude.{◌≡◌, ℕ, ◌+◌, ◌*◌, ◌%◌, ◌^◌, ◌<◌, ◌≤◌, List, [], ◌∷◌, ◌++◌, IfOk};
+ghost use Rattle.std.specs.Prelude.{◌≡◌, ℕ, ◌+◌, ◌*◌, ◌%◌, ◌^◌, ◌<◌, ◌≤◌, List, [], ◌∷◌, ◌++◌, IfOk, option_map};
 ghost use Rattle.h265_model.specs.declared.leaf.Kind.{Kind};
 ghost use Rattle.h265_model.specs.Plain.{coded};
 ghost use Rattle.h265_model.specs.Motion as motion;
 ghost use Rattle.h265_model.specs.Motion.{Moving};
-ghost use Rattle.motion_grid.specs.Cells.{blocks, cell_at, kept_before, HasMotion, coded_unit};
+ghost use Rattle.motion_grid.specs.Cells.{blocks, cell_at, kept_before, unit_at, HasMotion, coded_unit};
 
 use crate::cells::{Cell, empty, fill_square};
-use crate::neighbours::{NO_MOTION, two_of};
+use crate::neighbours::{CodedVectors, merge_vector, side, two_of};
 use h265_model::{CodingBlock, NoMemory, Vector};
 use px_plane::Size;
 use std::alloc::Global;
@@ -40,20 +40,6 @@ fn blocks_of(side: u32) -> usize
     ensures few { result ≤ 512 }
 {
     ((side + 7) / 8) as usize
-}
-
-// The side of a block.
-fn side(log2: u32) -> u32
-    requires low { 3 ≤ log2 }
-    requires high { log2 ≤ 5 }
-    ensures value { result ≡ 2 ^ log2 }
-    ensures few { result ≤ 32 }
-{
-    match log2 {
-        3 => 8,
-        4 => 16,
-        _ => 32,
-    }
 }
 
 impl MotionGrid {
@@ -114,6 +100,16 @@ impl MotionGrid {
         self.cells[row * columns + column]
     }
 
+    /// The vector of the unit that covers a place, `None` in it where the unit wasn't copied; `None` where no unit covers
+    /// the place.
+    pub fn vector_at(&self, x: u32, y: u32) -> Option<Option<Vector>>
+        ensures { (units : List Moving) → HasMotion self.now units
+            → result ≡ option_map (λ unit. unit.vector) (unit_at units x y) }
+    {
+        let cell = self.cell(x, y)?;
+        Some(cell.vector)
+    }
+
     // The vector at the place before (x, y) in both directions (6.4.2).
     fn before(&self, x: u32, y: u32) -> Option<Vector>
         ensures { result ≡ kept_before self.now x y }
@@ -124,29 +120,6 @@ impl MotionGrid {
         self.cell(x - 1, y - 1)?.vector
     }
 
-    // The vector of one of the five neighbours of a block of side `n`, the first that has one.
-    fn neighbour(&self, x: u32, y: u32, n: u32) -> Option<Vector>
-        requires x { x < 4096 }
-        requires y { y < 4096 }
-        requires n { n ≤ 32 }
-        ensures { result ≡ motion.first_vector (kept_before self.now x (y + n) ∷ kept_before self.now (x + n) y ∷ kept_before self.now (x + n + 1) y
-            ∷ kept_before self.now x (y + n + 1) ∷ kept_before self.now x y ∷ []) }
-    {
-        let left = self.before(x, y + n);
-        if left.is_some() {
-            return left;
-        }
-        let above = self.before(x + n, y);
-        if above.is_some() {
-            return above;
-        }
-        let right = self.before(x + n + 1, y);
-        if right.is_some() {
-            return right;
-        }
-        self.before(x, y + n + 1).or(self.before(x, y))
-    }
-
     /// The merge vector of a block of side 2^log2 at (x, y): that of the one merging candidate (8.5.3.2.2).
     pub fn merge(&self, block: CodingBlock) -> Vector
         requires low { 3 ≤ block.log2 }
@@ -155,9 +128,8 @@ impl MotionGrid {
         requires down { block.y < coded self.now.size.h }
         ensures { (units : List Moving) → HasMotion self.now units → result ≡ motion.merge units block }
     {
-        let n = side(block.log2);
         let (_w, _h) = (self.size.w(), self.size.h());
-        self.neighbour(block.x, block.y, n).unwrap_or(NO_MOTION)
+        merge_vector(self, block)
     }
 
     /// The two motion vector predictors of a block of side 2^log2 at (x, y) (8.5.3.2.6 and 8.5.3.2.7).
@@ -178,5 +150,15 @@ impl MotionGrid {
             .or(self.before(block.x + n, block.y))
             .or(self.before(block.x, block.y));
         two_of(left, above)
+    }
+}
+
+impl CodedVectors for MotionGrid {
+    ghost use Rattle.motion_grid.specs.Cells.{HasMotion};
+
+    ghost stands_for = { HasMotion };
+
+    fn vector_before(&self, x: u32, y: u32) -> Option<Vector> {
+        self.before(x, y)
     }
 }

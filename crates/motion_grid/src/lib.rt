@@ -8,6 +8,7 @@ mod neighbours;
 
 pub use grid::MotionGrid;
 pub use h265_model::Vector;
+pub use neighbours::{CodedVectors, merge_vector};
 
 #[cfg(test)]
 mod tests;

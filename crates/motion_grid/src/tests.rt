@@ -112,3 +112,30 @@ fn neighbours_tell(rt: HostRuntime) -> Result<(), Fail> {
     assert_eq!(rt; parts(grid.merge(block)), (0, 0), "cleared");
     Ok(())
 }
+
+// The vectors told at places of the grid of UNITS: not covered, not copied, copied.
+const PLACES: [(u32, u32, Option<Option<(i32, i32)>>); 5] = [
+    (0, 0, Some(Some((3, -8)))),
+    (15, 31, Some(None)),
+    (16, 16, Some(Some((0, 8)))),
+    (71, 39, Some(Some((8, 5)))),
+    (72, 0, None),
+];
+
+#[test]
+fn places_tell(rt: HostRuntime) -> Result<(), Fail> {
+    let mut grid = empty(rt.alloc())?;
+    assert_eq!(rt; grid.vector_at(0, 0).is_some(), false, "no unit is set");
+    for (x, y, log2, vector, _told) in UNITS {
+        set(&mut grid, CodingBlock { x, y, log2 }, vector_of(vector)).ok_or("a place")?;
+    }
+    for (x, y, told) in PLACES {
+        let found = match grid.vector_at(x, y) {
+            None => None,
+            Some(None) => Some(None),
+            Some(Some(vector)) => Some(Some(parts(vector))),
+        };
+        assert_eq!(rt; found, told, "at {x}, {y}");
+    }
+    Ok(())
+}

@@ -1,4 +1,5 @@
 pub mod Colours
+pub mod Digits
 pub mod Lines
 pub mod Numbers
 pub mod ReadBack

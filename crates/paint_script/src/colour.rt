@@ -10,18 +10,32 @@ use h265_model::Rgb;
 /// How many digits spell a colour.
 pub(crate) const COLOUR_DIGITS: usize = 6;
 
+// What each byte is worth as a digit, or 16 where it is none.
+static WORTH: [u8; 256] = [
+    16, 16, 16, 16, 16, 16, 16, 16, 16, 16, 16, 16, 16, 16, 16, 16, 16, 16, 16, 16, 16, 16, 16, 16,
+    16, 16, 16, 16, 16, 16, 16, 16, 16, 16, 16, 16, 16, 16, 16, 16, 16, 16, 16, 16, 16, 16, 16, 16,
+    0, 1, 2, 3, 4, 5, 6, 7, 8, 9, 16, 16, 16, 16, 16, 16, 16, 16, 16, 16, 16, 16, 16, 16, 16, 16,
+    16, 16, 16, 16, 16, 16, 16, 16, 16, 16, 16, 16, 16, 16, 16, 16, 16, 16, 16, 16, 16, 16, 16, 10,
+    11, 12, 13, 14, 15, 16, 16, 16, 16, 16, 16, 16, 16, 16, 16, 16, 16, 16, 16, 16, 16, 16, 16, 16,
+    16, 16, 16, 16, 16, 16, 16, 16, 16, 16, 16, 16, 16, 16, 16, 16, 16, 16, 16, 16, 16, 16, 16, 16,
+    16, 16, 16, 16, 16, 16, 16, 16, 16, 16, 16, 16, 16, 16, 16, 16, 16, 16, 16, 16, 16, 16, 16, 16,
+    16, 16, 16, 16, 16, 16, 16, 16, 16, 16, 16, 16, 16, 16, 16, 16, 16, 16, 16, 16, 16, 16, 16, 16,
+    16, 16, 16, 16, 16, 16, 16, 16, 16, 16, 16, 16, 16, 16, 16, 16, 16, 16, 16, 16, 16, 16, 16, 16,
+    16, 16, 16, 16, 16, 16, 16, 16, 16, 16, 16, 16, 16, 16, 16, 16, 16, 16, 16, 16, 16, 16, 16, 16,
+    16, 16, 16, 16, 16, 16, 16, 16, 16, 16, 16, 16, 16, 16,
+];
+
 // What a digit is worth: one of 0 to 9 and a to f.
+#[inline(always)]
 fn hex_value(digit: u8) -> Option<u8>
     ensures value { result ≡ script.hex_value digit }
     ensures small { IfSome result (λ n. n < 16) }
 {
-    match digit {
-        b'0'..=b'9' => Some(digit - b'0'),
-        b'a'..=b'f' => Some(digit - b'a' + 10),
-        _ => None,
-    }
+    let worth = WORTH[digit as usize];
+    if worth < 16 { Some(worth) } else { None }
 }
 
+#[inline(always)]
 fn byte_at(high: u8, low: u8) -> Option<u8>
     ensures value { result ≡ script.byte_at high low }
     ensures small { IfSome result (λ n. n < 256) }
@@ -32,6 +46,7 @@ fn byte_at(high: u8, low: u8) -> Option<u8>
 }
 
 // The colour that six digits spell.
+#[inline(always)]
 pub(crate) fn colour_of(digits: &[u8]) -> Option<Rgb>
     requires { length digits.now ≡ 6 }
     ensures value { result ≡ colour_of digits.now }

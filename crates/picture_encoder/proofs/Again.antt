@@ -59,12 +59,12 @@ pub last_sized : (size : Size) (last : Option Planes) → IfSome last (λ p. p.s
 last_sized size None sized = refl
 last_sized size (Some last) sized = sized
 
--- what an encoder keeps after one picture more
-pub one_kept : (size : Size) (effort : ℕ) (extra : Extra) (count : ℕ) (last : Option Planes) (before : Option Before) (job : Job) (now : Planes) (after : List ℕ) → after ≡ after_slice extra now → effort ≤ 2 → IfSome last (λ p. p.size ≡ size)
+-- what is kept after one picture more
+pub one_kept : (size : Size) (effort : ℕ) (count : ℕ) (last : Option Planes) (before : Option Before) (job : Job) (now : Planes) → effort ≤ 2 → IfSome last (λ p. p.size ≡ size)
     → IsJobOf size job → IsLaid (last_or_black size last) job now → IfSome before (λ b. last ≡ Some (arc_value b.picture)) → IfSome before (λ b. b.job ≡ job)
-    → IsWhole size effort extra (count + 1) (Some now) before (Some after)
-one_kept size effort extra count last None job now after follows low sized fits made picture same = record { low = low; sized = made.size ∙ last_sized size last sized; none = λ none. absurd (both_ways true none refl); again = tt; follows = follows }
-one_kept size effort extra count last (Some b) job now after follows low sized fits made picture same =
+    → IsWhole size effort (count + 1) (Some now) before
+one_kept size effort count last None job now low sized fits made picture same = record { low = low; sized = made.size ∙ last_sized size last sized; none = λ none. absurd (both_ways true none refl); again = tt }
+one_kept size effort count last (Some b) job now low sized fits made picture same =
     let is : (last_or_black size last).size ≡ size = last_sized size last sized in
     let old : last_or_black size last ≡ arc_value b.picture = ap (last_or_black size) picture in
     record {
@@ -75,13 +75,11 @@ one_kept size effort extra count last (Some b) job now after follows low sized f
         fits = subst (λ (s : Size). IsJobOf s b.job) (sym (ap (λ (p : Planes). p.size) (sym old) ∙ is)) (subst (IsJobOf size) (sym same) fits);
         makes = subst (λ (p : Planes). IsLaid p b.job now) old (subst (λ (j : Job). IsLaid (last_or_black size last) j now) (sym same) made);
       };
-      follows = follows;
     }
 
 -- what stands after a slice is the same again where a job lists no tile
-pub after_same : (size : Size) (extra : Extra) (last : Option Planes) (after : Option (List ℕ)) (p : Planes) (bytes : List ℕ) (job : Job) (now : Planes) → last ≡ Some p → after ≡ Some bytes
-    → IfSome after (λ b. b ≡ after_slice extra (last_or_black size last)) → IsPicture p → length job.tiles ≡ 0 → IsLaid (last_or_black size last) job now → bytes ≡ after_slice extra now
-after_same size extra last after p bytes job now is_last is_after follows whole none made =
-    let kept : bytes ≡ after_slice extra (last_or_black size last) = subst (λ (o : Option (List ℕ)). IfSome o (λ b. b ≡ after_slice extra (last_or_black size last))) is_after follows in
-    let here : last_or_black size last ≡ p = ap (last_or_black size) is_last in
-    kept ∙ (ap (after_slice extra) here ∙ ap (after_slice extra) (sym (laid_same p now job whole none (subst (λ (q : Planes). IsLaid q job now) here made))))
+pub after_same : (extra : Extra) (last : Planes) (after : Option (List ℕ)) (bytes : List ℕ) (job : Job) (now : Planes) → after ≡ Some bytes
+    → IfSome after (λ b. b ≡ after_slice extra last) → IsPicture last → length job.tiles ≡ 0 → IsLaid last job now → bytes ≡ after_slice extra now
+after_same extra last after bytes job now is_after follows whole none made =
+    let kept : bytes ≡ after_slice extra last = subst (λ (o : Option (List ℕ)). IfSome o (λ b. b ≡ after_slice extra last)) is_after follows in
+    kept ∙ ap (after_slice extra) (sym (laid_same last now job whole none made))

@@ -47,7 +47,7 @@ module _ (now : Picture) (size : Size) (effort : ℕ) where
   lawful_are None total = lawful_alone now size effort total
   lawful_are (Some last) total = lawful_after (Some last) now size effort total
 
-  allowed_is : (reference : Option Picture) (ctu : ℕ) → AreAllowed (slice_kind (is_none reference)) (choice reference now size effort ctu)
+  pub allowed_is : (reference : Option Picture) (ctu : ℕ) → AreAllowed (slice_kind (is_none reference)) (choice reference now size effort ctu)
   allowed_is None ctu = allowed_alone now _ (choice_is_fair None now size effort ctu)
   allowed_is (Some last) ctu = allowed_after (choice (Some last) now size effort ctu)
 

@@ -8,7 +8,7 @@ use Rattle.h265_model.specs.Bits.{u, ue, digits_up_to, digit_count, alignment, b
 use Rattle.h265_model.specs.Fields.{Descriptor, U, Ue, Field, fixed, golomb, fields_bits, element_bits, aligned_bits}
 use Rattle.h265_model.specs.NalUnits.{escape, start_code, stream_bytes}
 use Rattle.h265_model.specs.ParamSets.{param_units, vps_front, vps_back, vps_fields, profile_tier_level, sps_formats, sps_front, sps_back, sps_fields, size_fields, window_fields, is_padded, pps_fields}
-use Rattle.h265_model.specs.SliceHead.{Head, head_bits, head_fields, head_front, head_middle, poc_fields, entry_points}
+use Rattle.h265_model.specs.SliceHead.{Head, head_bits, segment_bits, dependent_fields, head_fields, head_front, head_middle, poc_fields, entry_points}
 use Rattle.h265_model.specs.Stream.{slice_piece, nal_header, but_last}
 use Rattle.h265_model.specs.Hash.{hash_of_planes}
 use Rattle.h265_model.specs.declared.extra.Extra.{Extra}
@@ -102,24 +102,25 @@ weights_back : weights sps_back ≤ 10000
 unfolding sps_back
 weights_back = omega arith
 
-weights_pps : weights (pps_fields false) ≤ 5000
+weights_pps : (segments : Bool) → weights (pps_fields segments) ≤ 5000
 unfolding pps_fields
-weights_pps = omega arith
+weights_pps true = omega arith
+weights_pps false = omega arith
 
 weights_sps : (size : Size) → weights (sps_fields size) ≤ 16000
 weights_sps size =
     omega (arith, weights_append (sps_front ++ size_fields size) sps_back, weights_append sps_front (size_fields size), weights_front, weights_size size, weights_back)
 
-pub sets_short : (size : Size) → length (stream_bytes (param_units size false)) < 2 ^ 40
+pub sets_short : (size : Size) (segments : Bool) → length (stream_bytes (param_units size segments)) < 2 ^ 40
 unfolding stream_bytes param_units
-sets_short size =
+sets_short size segments =
     let v : List ℕ = escape (bytes (aligned_bits (fields_bits vps_fields))) in
     let s : List ℕ = escape (bytes (aligned_bits (fields_bits (sps_fields size)))) in
-    let p : List ℕ = escape (bytes (aligned_bits (fields_bits (pps_fields false)))) in
+    let p : List ℕ = escape (bytes (aligned_bits (fields_bits (pps_fields segments)))) in
     let lv : length v ≤ 2 * (weights vps_fields + 8) = length_table vps_fields in
     let ls : length s ≤ 2 * (weights (sps_fields size) + 8) = length_table (sps_fields size) in
-    let lp : length p ≤ 2 * (weights (pps_fields false) + 8) = length_table (pps_fields false) in
-    three v s p (weights vps_fields) (weights (sps_fields size)) (weights (pps_fields false)) lv ls lp weights_vps (weights_sps size) weights_pps
+    let lp : length p ≤ 2 * (weights (pps_fields segments) + 8) = length_table (pps_fields segments) in
+    three v s p (weights vps_fields) (weights (sps_fields size)) (weights (pps_fields segments)) lv ls lp weights_vps (weights_sps size) (weights_pps segments)
   where
     three : (v s p : List ℕ) (a b c : ℕ) → length v ≤ 2 * (a + 8) → length s ≤ 2 * (b + 8) → length p ≤ 2 * (c + 8) → a ≤ 5000 → b ≤ 16000 → c ≤ 5000
         → length ((start_code ++ (0x40 ∷ 1 ∷ []) ++ v) ++ ((start_code ++ (0x42 ∷ 1 ∷ []) ++ s) ++ ((start_code ++ (0x44 ∷ 1 ∷ []) ++ p) ++ []))) < 2 ^ 40
@@ -172,12 +173,23 @@ length_head : (head : Head) → length (escape (bytes (head_bits head))) ≤ 700
 unfolding head_bits
 length_head head = omega (arith, length_table (head_fields head), weights_head head)
 
+-- the header of a slice segment (7.3.6.1)
+weights_dependent : (idr : Bool) (address ctus : ℕ) → weights (dependent_fields idr address ctus) ≤ 1000
+unfolding dependent_fields
+weights_dependent true address ctus = omega (arith, few_digits 64 (ctus - 1))
+weights_dependent false address ctus = omega (arith, few_digits 64 (ctus - 1))
+
+pub length_segment_head : (idr : Bool) (poc address ctus : ℕ) → length (escape (bytes (segment_bits idr poc address ctus))) ≤ 7000
+unfolding segment_bits
+length_segment_head idr poc zero ctus = length_head (record { idr = idr; poc = poc; offsets = [] })
+length_segment_head idr poc (suc address) ctus = omega (arith, length_table (dependent_fields idr (suc address) ctus), weights_dependent idr (suc address) ctus)
+
 length_take : {A : Type 0} (n : ℕ) (xs : List A) → length (take n xs) ≤ length xs
 length_take zero xs = omega arith
 length_take (suc n) [] = omega arith
 length_take (suc n) (x ∷ xs) = omega (arith, length_take n xs)
 
-length_header : (idr : Bool) → length (nal_header idr) ≡ 2
+pub length_header : (idr : Bool) → length (nal_header idr) ≡ 2
 length_header true = refl
 length_header false = refl
 

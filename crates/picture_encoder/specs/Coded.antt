@@ -35,11 +35,6 @@ pub record Makes (b : Before) (now : Planes) : Type 0 where
   pub fits : IsJobOf (arc_value b.picture).size b.job
   pub makes : IsLaid (arc_value b.picture) b.job now
 
--- what a stream has besides the slices of its pictures, by whether it has their hashes
-abbrev pub extra_of : Bool → Extra
-extra_of true = Hash
-extra_of false = Plain
-
 -- the NAL unit of a picture's hash (7.3.2.4, 7.3.5, D.2.19)
 abbrev pub hash_of : Planes → List ℕ
 hash_of p = nal_unit_bytes (record { header = hash_header; rbsp = hash_of_planes (planes_of p) })
@@ -51,13 +46,31 @@ after_slice Hash p = hash_of p
 after_slice Segments p = []
 after_slice Moves p = []
 
--- what an encoder keeps: the picture that was coded last has its size, and where there is none, none was coded
-pub record IsWhole (size : Size) (effort : ℕ) (extra : Extra) (count : ℕ) (last : Option Planes) (before : Option Before) (after : Option (List ℕ)) : Type 0 where
+-- what is kept of pictures: the one that was coded last has its size, and where there is none, none was coded
+pub record IsWhole (size : Size) (effort : ℕ) (count : ℕ) (last : Option Planes) (before : Option Before) : Type 0 where
   pub low : effort ≤ 2
   pub sized : IfSome last (λ p. p.size ≡ size)
   pub none : IsNone last → count ≡ 0
   pub again : IfSome before (λ b. Makes b (last_or_black size last))
-  pub follows : IfSome after (λ bytes. bytes ≡ after_slice extra (last_or_black size last))
+
+-- each picture is one slice, without blocks that move
+abbrev pub AreSlices : Extra → Type 0
+AreSlices Plain = Unit {0}
+AreSlices Hash = Unit {0}
+AreSlices Segments = ⊥
+AreSlices Moves = ⊥
+
+-- the hash of each picture stands after it
+abbrev pub is_hashed : Extra → Bool
+is_hashed Plain = false
+is_hashed Hash = true
+is_hashed Segments = false
+is_hashed Moves = false
+
+-- what an encoder of slices keeps besides: what stands after the slice of the picture that was coded last
+pub record IsEncoder (e : Coded) (after : Option (List ℕ)) : Type 0 where
+  pub slices : AreSlices e.settings.extra
+  pub follows : IfSome after (λ bytes. bytes ≡ after_slice e.settings.extra e.last)
 
 -- the last of a list, or this where it has none
 abbrev pub last_of : Raster → List Raster → Raster

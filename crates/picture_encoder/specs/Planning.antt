@@ -9,7 +9,7 @@ use Rattle.h265_model.specs.Choice.{choice}
 use Rattle.h265_model.specs.Tiles.{tile_count}
 use Rattle.h265_model.specs.NalUnits.{escape}
 use Rattle.h265_model.specs.Slice.{row_code}
-use Rattle.h265_model.specs.Stream.{slice_kind, is_idr, order_count, row_codes, slice_piece}
+use Rattle.h265_model.specs.Stream.{slice_kind, is_idr, order_count, row_codes, slice_piece, picture_units}
 use Rattle.h265_model.specs.Tree.{leaf_units, source_of}
 use Rattle.px_plane.specs.Planes.{Planes, picture_of}
 use Rattle.block_choice.specs.Plans.{IsSameTree}
@@ -129,3 +129,9 @@ slice_of e now =
 -- its piece
 abbrev pub piece_of : Coded → Planes → List ℕ
 piece_of e now = slice_of e now ++ after_slice e.settings.extra now
+
+-- the NAL units of a picture after those that were coded, of whatever stream
+abbrev pub units_of : Coded → Planes → List ℕ
+units_of e now =
+    let idr : Bool = is_idr e.settings.key e.count in
+    picture_units e.settings.extra e.settings idr (order_count e.settings.key e.count % 256) (reference_of idr (picture_of e.last)) (picture_of now)

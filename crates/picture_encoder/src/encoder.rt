@@ -1,28 +1,25 @@
 //! The encoder of a recording.
-ghost use Rattle.std.specs.Prelude.{◌≡◌, ◌≤◌, ◌<◌, ◌+◌, ◌-◌, ◌^◌, List, [], ◌∷◌, ◌++◌, true, false, length, map, option_map, IfSome, IfOk, IsOk, OnOk, OnErr, IsTrue};
+ghost use Rattle.std.specs.Prelude.{◌≡◌, ◌≤◌, ◌<◌, ◌+◌, ◌-◌, ◌^◌, List, [], ◌∷◌, ◌++◌, true, false, length, map, IfSome, IfOk, IsOk, OnOk, OnErr};
 ghost use Rattle.std.specs.Arc.{arc_value};
 ghost use Rattle.std.specs.List.{All};
 ghost use Rattle.h265_model.specs.Plain.{ctus};
 ghost use Rattle.h265_model.specs.Raster.{Raster};
-ghost use Rattle.h265_model.specs.Stream.{is_idr, pieces};
-ghost use Rattle.h265_model.specs.Settings.{is_size, plain};
+ghost use Rattle.h265_model.specs.Stream.{pieces};
+ghost use Rattle.h265_model.specs.Settings.{plain};
 ghost use Rattle.h265_model.specs.declared.extra.Extra.TheVariants.{Hash};
 ghost use Rattle.px_plane.specs.Tiles.{IsJobOf};
-ghost use Rattle.px_plane.specs.Planes.{Planes, picture_of, Shows};
-ghost use Rattle.picture_encoder.specs.Coded.{StandsFor, TurnsInto, IsLaid, after_slice};
+ghost use Rattle.px_plane.specs.Planes.{Planes};
+ghost use Rattle.picture_encoder.specs.Coded.{StandsFor, TurnsInto, IsLaid, after_slice, is_hashed};
 ghost use Rattle.row_coder.specs.Rows.{plan_of};
 ghost use Rattle.row_core.specs.Plans.{HaveWidth, rows_of};
-ghost use Rattle.picture_encoder.specs.Planning.{IsKept, IsKeptBut, IsTask, IsTaskOf, codes_of, piece_of, reference_of};
+ghost use Rattle.picture_encoder.specs.Planning.{IsKept, codes_of, piece_of};
 
-use crate::before::{Before, lay_over, whole};
-use crate::order::{is_idr, order_bits};
+use crate::before::whole;
+use crate::history::{Begun, History};
 use crate::picture::picture_slice;
-use crate::planning::Task;
 use crate::rows::picture_jobs;
-use crate::tiles::flags_of;
 use gate::Gate;
-use h265_model::NoMemory;
-use param_sets::{Params, write_params};
+use h265_model::{Extra, NoMemory};
 use pic_hash::hash_unit;
 use px_plane::{Job, Picture, Size};
 use row_coder::CtuRow;
@@ -31,13 +28,6 @@ use std::alloc::Global;
 use std::marker::Model;
 use std::sync::{Arc, Wait};
 use std::thread::Threads;
-
-// A size is within its limits.
-fn size_fits(size: Size)
-    ensures { IsTrue (is_size size) }
-{
-    let _width = size.w();
-}
 
 // Whether a job lists no tile.
 fn lists_none(job: &Job) -> bool
@@ -52,35 +42,21 @@ fn lists_none(job: &Job) -> bool
 /// It stands for the list of pictures that it has coded. Contracts see its settings, the number of these pictures, and the last of them.
 #[derive(Drop)]
 pub struct Encoder {
-    alloc: Global,
-    size: Size,
-    effort: u32,
-    key: u32,
-    // Whether the hash of each picture stands after its slice.
-    hashed: bool,
-    count: u32,
-    // The picture that was coded last.
-    last: Option<Arc<Picture, Global>>,
-    // The one before it, where it is kept.
-    before: Option<Before>,
+    // What is kept of these pictures, in a stream without or with their hashes.
+    history: History,
     // What stands after the slice of the picture that was coded last, where it is kept.
     after: Option<Vec<u8>>,
 }
 
 impl Model for Encoder {
     ghost use Rattle.std.specs.Prelude.{option_map};
-    ghost use Rattle.std.specs.Arc.{arc_value};
-    ghost use Rattle.picture_encoder.specs.Coded.{Coded, IsWhole, extra_of, last_or_black};
+    ghost use Rattle.picture_encoder.specs.Coded.{Coded, IsEncoder};
 
     ghost Value = { Coded };
 
-    ghost view = { λ e. record {
-      settings = record { size = e.size; effort = e.effort; key = e.key; extra = extra_of e.hashed };
-      count = e.count;
-      last = last_or_black e.size (option_map (λ last. arc_value last) e.last);
-    } };
+    ghost view = { λ e. e.history };
 
-    ghost invariant = { λ e. IsWhole e.size e.effort (extra_of e.hashed) e.count (option_map (λ last. arc_value last) e.last) e.before (option_map (λ after. after.items) e.after) };
+    ghost invariant = { λ e. IsEncoder e.history (option_map (λ after. after.items) e.after) };
 }
 
 impl Encoder {
@@ -96,30 +72,31 @@ impl Encoder {
         ensures sized { IfOk result (λ encoder. encoder.last.size ≡ encoder.settings.size) }
         ensures fresh { IfOk result (λ encoder. StandsFor encoder []) }
     {
-        size_fits(size);
         Ok(Encoder {
-            alloc,
-            size,
-            effort,
-            key,
-            hashed: false,
-            count: 0,
-            last: None,
-            before: None,
+            history: History::new(alloc, size, effort, key, Extra::Plain),
             after: None,
         })
     }
 
     /// The same encoder, which writes the hash of each picture after its slice: a suffix SEI message in a NAL unit of its own (7.3.2.4, D.2.19). It has
     /// coded no picture. Takes no memory.
-    pub fn with_hash(mut self) -> Encoder
+    pub fn with_hash(self) -> Encoder
         requires none { StandsFor self [] }
         ensures settings { result ≡ record self { settings = record self.settings { extra = Hash } } }
         ensures fresh { StandsFor result [] }
     {
-        self.hashed = true;
-        self.after = None;
-        self
+        let Encoder { history, after: _ } = self;
+        Encoder {
+            history: history.with_extra(Extra::Hash),
+            after: None,
+        }
+    }
+
+    /// The size of the pictures, in samples.
+    pub fn size(&self) -> Size
+        ensures { result ≡ self.now.settings.size }
+    {
+        self.history.size()
     }
 
     /// The first piece of the stream: the parameter sets.
@@ -131,14 +108,7 @@ impl Encoder {
         ensures piece { IfOk result (λ piece. pieces self.now.settings [] ≡ piece.items ∷ []) }
         ensures short { IfOk result (λ piece. length piece.items < 2 ^ 40) }
     {
-        let piece = write_params(
-            self.alloc,
-            &Params {
-                size: self.size,
-                segments: false,
-            },
-        )?;
-        Ok(piece)
+        self.history.first()
     }
 
     /// Lays a job over the picture before, codes the picture that it gives on the caller's thread, and gives its piece of the stream: a start code
@@ -163,13 +133,10 @@ impl Encoder {
         ensures short { IfOk result (λ piece. length piece.items < 2 ^ 40) }
         ensures err { OnErr result (self.new ≡ self.old) }
     {
-        let touched = flags_of(self.alloc, self.size, job.tiles.as_slice())?;
-        let now = self.picture_after(job)?;
-        let jobs = self.jobs(&now, &touched)?;
-        let rows = rows_alone(self.alloc, jobs)?;
-        let after = self.after_slice(&now, job)?;
-        let piece = self.piece(&now, &touched, &rows, &after)?;
-        self.keep(now, job, after);
+        let begun = self.history.begin(job)?;
+        let jobs = self.jobs(&begun.now, &begun.touched)?;
+        let rows = rows_alone(self.history.alloc(), jobs)?;
+        let piece = self.finish(begun, &rows, job)?;
         Ok(piece)
     }
 
@@ -201,83 +168,14 @@ impl Encoder {
         ensures short { IfOk result (λ piece. length piece.items < 2 ^ 40) }
         ensures err { OnErr result (self.new ≡ self.old) }
     {
-        let touched = flags_of(self.alloc, self.size, job.tiles.as_slice())?;
-        let now = self.picture_after(job)?;
-        let jobs = self.jobs(&now, &touched)?;
-        let rows = run_rows(rt, self.alloc, jobs, workers, gate)?;
-        let after = self.after_slice(&now, job)?;
-        let piece = self.piece(&now, &touched, &rows, &after)?;
-        self.keep(now, job, after);
+        let begun = self.history.begin(job)?;
+        let jobs = self.jobs(&begun.now, &begun.touched)?;
+        let rows = run_rows(rt, self.history.alloc(), jobs, workers, gate)?;
+        let piece = self.finish(begun, &rows, job)?;
         Ok(piece)
     }
 
-    // The picture before the last one as it is after its job.
-    fn made_again(&mut self) -> Option<Picture>
-        ensures made { IfSome result (λ made. made ≡ self.old.last) }
-        ensures size { IfSome result (λ made. made.size ≡ self.old.settings.size) }
-        ensures same { self.new ≡ self.old }
-    {
-        self.before.take()?.next()
-    }
-
-    // A copy of the last picture, or a black one where there is none.
-    fn copy_of_last(&mut self) -> Result<Picture, NoMemory>
-        ensures copy { IfOk result (λ copy. copy ≡ self.old.last) }
-        ensures size { IfOk result (λ copy. copy.size ≡ self.old.settings.size) }
-        ensures same { self.new ≡ self.old }
-    {
-        if let Some(made) = self.made_again() {
-            return Ok(made);
-        }
-        match &self.last {
-            Some(last) => last.twin(),
-            None => Picture::black(self.alloc, self.size),
-        }
-    }
-
-    // The picture that a job makes of the last one.
-    fn picture_after(&mut self, job: &Job) -> Result<Arc<Picture, Global>, NoMemory>
-        requires { IsJobOf self.old.settings.size job.now }
-        ensures size { IfOk result (λ now. (arc_value now).size ≡ self.old.settings.size) }
-        ensures laid { IfOk result (λ now. IsLaid self.old.last job.now (arc_value now)) }
-        ensures shows { IfOk result (λ now. (shown : Raster) → TurnsInto job.now self.old.last shown → Shows (arc_value now) shown) }
-        ensures kept { IfOk result (λ now. IsKeptBut job.now.tiles self.old.last (arc_value now)) }
-        ensures same { self.new ≡ self.old }
-    {
-        let mut now = self.copy_of_last()?;
-        lay_over(&mut now, job);
-        Ok(Arc::new(self.alloc, now)?)
-    }
-
-    // The picture that the next one may copy from; none for an IDR picture.
-    fn reference(&self) -> Option<&Picture>
-        ensures copies { option_map (λ p. picture_of p.now) result ≡ reference_of (is_idr self.now.settings.key self.now.count) (picture_of self.now.last) }
-        ensures last { IfSome result (λ p. p.now ≡ self.now.last) }
-    {
-        if is_idr(self.key, self.count) {
-            return None;
-        }
-        match &self.last {
-            Some(last) => Some(last),
-            None => None,
-        }
-    }
-
-    // What is coded of a picture that is the last one but for tiles that have a flag.
-    fn task<'a>(&'a self, now: &'a Arc<Picture, Global>, touched: &'a [bool]) -> Task<'a>
-        requires { IsKept touched.now self.now.last (arc_value now.now) }
-        ensures task { IsTask result }
-        ensures of { IsTaskOf self.now (arc_value now.now) result }
-    {
-        Task {
-            reference: self.reference(),
-            current: now,
-            effort: self.effort,
-            touched,
-        }
-    }
-
-    // The jobs of the rows of such a picture.
+    // The jobs of the rows of a picture that is the last one but for tiles that have a flag.
     fn jobs(&self, now: &Arc<Picture, Global>, touched: &[bool]) -> Result<Vec<CtuRow>, NoMemory>
         requires { IsKept touched.now self.now.last (arc_value now.now) }
         ensures some { IfOk result (λ jobs. 0 < length jobs.items) }
@@ -286,14 +184,24 @@ impl Encoder {
         ensures width { IfOk result (λ jobs. HaveWidth (ctus (arc_value now.now).size.w) (map plan_of jobs.items)) }
         ensures give { IfOk result (λ jobs. rows_of (ctus (arc_value now.now).size.w) (map plan_of jobs.items) ≡ codes_of self.now (arc_value now.now)) }
     {
-        picture_jobs(self.alloc, &self.task(now, touched))
+        picture_jobs(self.history.alloc(), &self.history.task(now, touched))
+    }
+
+    // Whether the hash of each picture stands after its slice.
+    fn hashed(&self) -> bool
+        ensures { result ≡ is_hashed self.now.settings.extra }
+    {
+        match self.history.extra() {
+            Extra::Hash => true,
+            Extra::Plain | Extra::Segments | Extra::Moves => false,
+        }
     }
 
     // What stands after the slice of the last picture, where it is kept and a job leaves the picture as it is.
     fn after_again(&self, job: &Job) -> Option<&Vec<u8>>
         ensures { IfSome result (λ after. (now : Planes) → IsLaid self.now.last job.now now → after.now.items ≡ after_slice self.now.settings.extra now) }
     {
-        let (Some(last), Some(after)) = (&self.last, &self.after) else {
+        let (Some(last), Some(after)) = (self.history.last(), &self.after) else {
             return None;
         };
         if lists_none(job) {
@@ -308,12 +216,12 @@ impl Encoder {
         requires { IsLaid self.now.last job.now now.now }
         ensures { IfOk result (λ after. after.items ≡ after_slice self.now.settings.extra now.now) }
     {
-        if !self.hashed {
-            return Ok(Vec::new(self.alloc));
+        if !self.hashed() {
+            return Ok(Vec::new(self.history.alloc()));
         }
         match self.after_again(job) {
             Some(after) => Ok(after.clone()?),
-            None => hash_unit(self.alloc, now),
+            None => hash_unit(self.history.alloc(), now),
         }
     }
 
@@ -331,9 +239,29 @@ impl Encoder {
         ensures piece { IfOk result (λ piece. piece.items ≡ piece_of self.now (arc_value now.now)) }
         ensures short { IfOk result (λ piece. length piece.items < 2 ^ 40) }
     {
-        let order = order_bits(self.key, self.count);
-        let mut piece = picture_slice(self.alloc, &self.task(now, touched), order, rows)?;
+        let order = self.history.order_bits();
+        let task = self.history.task(now, touched);
+        let mut piece = picture_slice(self.history.alloc(), &task, order, rows)?;
         piece.extend_from_slice(after)?;
+        Ok(piece)
+    }
+
+    // Gives the piece of a picture that a job made of the last one, from the bytes of its rows, and takes it for the last one.
+    fn finish(&mut self, begun: Begun, rows: &[Vec<u8>], job: &Job) -> Result<Vec<u8>, NoMemory>
+        requires job { IsJobOf self.old.settings.size job.now }
+        requires few { self.old.count < 2 ^ 32 - 1 }
+        requires laid { IsLaid self.old.last job.now (arc_value begun.now) }
+        requires kept { IsKept begun.touched.items self.old.last (arc_value begun.now) }
+        requires rows { map (λ row. row.items) rows.now ≡ codes_of self.old (arc_value begun.now) }
+        ensures piece { IfOk result (λ piece. piece.items ≡ piece_of self.old (arc_value begun.now)) }
+        ensures short { IfOk result (λ piece. length piece.items < 2 ^ 40) }
+        ensures coded { OnOk result (self.new ≡ record self.old { count = self.old.count + 1; last = arc_value begun.now }) }
+        ensures err { OnErr result (self.new ≡ self.old) }
+    {
+        let Begun { now, touched } = begun;
+        let after = self.after_slice(&now, job)?;
+        let piece = self.piece(&now, &touched, rows, &after)?;
+        self.keep(now, job, after);
         Ok(piece)
     }
 
@@ -345,10 +273,8 @@ impl Encoder {
         requires after { after.items ≡ after_slice self.old.settings.extra (arc_value now) }
         ensures { self.new ≡ record self.old { count = self.old.count + 1; last = arc_value now } }
     {
-        let last = self.last.replace(now);
-        self.before = Before::of(self.alloc, last, job);
+        self.history.keep(now, job);
         self.after = Some(after);
-        self.count += 1;
     }
 }
 

@@ -3,11 +3,11 @@ ghost use Rattle.std.specs.Prelude.{◌≡◌, ◌<◌, ◌≤◌, ◌+◌, ◌*
 ghost use Rattle.h265_model.specs.Plain.{ctus, below};
 ghost use Rattle.h265_model.specs.Tiles.{tile_count};
 ghost use Rattle.row_coder.specs.Rows.{leaves_of};
-ghost use Rattle.picture_encoder.specs.Planning.{IsTask, is_idr_task, chosen, row_chosen, size_of_task, raised, most_ticks};
+ghost use Rattle.picture_encoder.specs.Planning.{IsTask, is_idr_task, kind_of_task, chosen, row_chosen, size_of_task, raised, most_ticks};
 
 use bin_items::Leaves;
 use block_choice::plan_ctu;
-use h265_model::NoMemory;
+use h265_model::{NoMemory, SliceKind};
 use px_plane::{Picture, Steps};
 use std::alloc::Global;
 use std::marker::Brand;
@@ -16,26 +16,39 @@ use std::sync::ledger::{Blank, Ledger};
 
 /// A picture that is to be coded.
 #[derive(Drop)]
-pub(crate) struct Task<'a> {
-    // The last picture, where this one may copy from it: an IDR picture has none.
+pub struct Task<'a> {
+    /// The last picture, where this one may copy from it: an IDR picture has none.
     pub reference: Option<&'a Picture>,
+    /// The picture.
     pub current: &'a Arc<Picture, Global>,
+    /// 0 to 2: which intra modes are tried.
     pub effort: u32,
-    // For each tile, whether the two pictures may differ in it.
+    /// For each tile, whether the two pictures may differ in it.
     pub touched: &'a [bool],
 }
 
 impl<'a> Task<'a> {
     /// Whether it is an IDR picture.
-    pub(crate) fn is_idr(&self) -> bool
+    pub fn is_idr(&self) -> bool
         ensures { result ≡ is_idr_task self.now }
     {
         self.reference.is_none()
     }
+
+    /// The kind of its slice: I or P.
+    pub fn kind(&self) -> SliceKind
+        ensures { result ≡ kind_of_task self.now }
+    {
+        if self.is_idr() {
+            SliceKind::I
+        } else {
+            SliceKind::P
+        }
+    }
 }
 
-// The coding units of a coding tree unit.
-fn plan_unit<L: Ledger>(task: &Task, ctu: u32, steps: &mut Steps<L>) -> Leaves
+/// The coding units of a coding tree unit. Positions are compared where its tile has a flag alone, each once at most.
+pub fn plan_unit<L: Ledger>(task: &Task, ctu: u32, steps: &mut Steps<L>) -> Leaves
     requires task { IsTask task.now }
     requires ctu { ctu < tile_count (size_of_task task.now) }
     ensures choice { result.items ≡ chosen task.now ctu }

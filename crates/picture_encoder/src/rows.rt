@@ -8,25 +8,14 @@ ghost use Rattle.px_plane.specs.Planes.{picture_of};
 ghost use Rattle.row_core.specs.Plans.{HaveWidth, rows_of};
 ghost use Rattle.row_coder.specs.Rows.{leaves_of, plan_of};
 ghost use Rattle.slice_assembly.specs.Substreams.{IsSubstream};
-ghost use Rattle.picture_encoder.specs.Planning.{IsTask, kind_of_task, row_chosen, row_of_task, code_of_task, size_of_task};
+ghost use Rattle.picture_encoder.specs.Planning.{IsTask, row_chosen, row_of_task, code_of_task, size_of_task};
 
 use crate::planning::{Task, plan_picture};
 use bin_items::Leaves;
-use h265_model::{NoMemory, SliceKind};
+use h265_model::NoMemory;
 use px_plane::Picture;
 use row_coder::CtuRow;
 use std::alloc::Global;
-
-// The slice of a picture: I or P.
-fn kind_of(task: &Task) -> SliceKind
-    ensures { result ≡ kind_of_task task.now }
-{
-    if task.is_idr() {
-        SliceKind::I
-    } else {
-        SliceKind::P
-    }
-}
 
 // A row with its coding units, and those of the row above, where there is one. `above` are the rows above.
 fn row_job(
@@ -42,7 +31,7 @@ fn row_job(
     requires above { map (λ row. leaves_of row.items) above.now ≡ map (row_chosen task.now) (below row) }
     ensures { IfOk result (λ job. job ≡ row_of_task task.now row) }
 {
-    let job = CtuRow::new(alloc, task.current.clone()?, kind_of(task), row, plans)?;
+    let job = CtuRow::new(alloc, task.current.clone()?, task.kind(), row, plans)?;
     if row == 0 {
         return Ok(job);
     }
@@ -72,8 +61,8 @@ fn bytes_fit(plane: &[u8])
     ensures { AreBytes plane.now }
 {}
 
-// The size of a picture is within its limits, and its samples are bytes.
-fn picture_fits(picture: &Picture)
+/// The size of a picture is within its limits, and its samples are bytes.
+pub fn picture_fits(picture: &Picture)
     ensures size { IsTrue (is_size picture.now.size) }
     ensures samples { IsPicture (picture_of picture.now) }
 {

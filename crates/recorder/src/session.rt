@@ -1,6 +1,5 @@
 //! A recording from its scripts to its end.
 ghost use Rattle.std.specs.Prelude.{◌≡◌, ◌≤◌, ◌<◌, ◌-◌, ◌^◌, List, [], ◌∷◌, ◌++◌, length, IfOk};
-ghost use Rattle.h265_model.specs.Settings.{plain};
 ghost use Rattle.std.specs.List.{All};
 ghost use Rattle.std.specs.Thread.{IsSync};
 ghost use Rattle.recorder_model.specs.Files.{WhereTold};
@@ -11,6 +10,7 @@ ghost use Rattle.recorder.specs.Ends.{Ends, HasEndCause, HasRecorded, seen_pictu
 ghost use Rattle.recorder.specs.Players.{IsAt, HaveEnded};
 ghost use Rattle.recorder.specs.Beside.{IsRecordable};
 ghost use Rattle.recorder.specs.Sessions.{IsOrder, all_cuts};
+ghost use Rattle.picture_encoder.specs.Coded.{StandsFor};
 
 use crate::clients::{any_stopped, fold_all, play_clients};
 use crate::record::{RecordEnd, record_all};
@@ -20,7 +20,6 @@ use h265_model::NoMemory;
 use live_desk::{ClientPass, Desk, RecorderPass};
 use paint_script::Scripts;
 use picture_encoder::Encoder;
-use px_plane::Size;
 use recorder_model::Entry;
 use std::alloc::Global;
 use std::marker::Model;
@@ -118,26 +117,20 @@ fn play_and_record<R: Threads + Wait + Sync, K: Sink + Send, G: Gate + Sync>(
 }
 
 impl Session {
-    /// Opens a desk of this size for the scripts of 1 to 64 clients. `effort` (0 to 2) and `key` are those of the encoder.
+    /// Opens a desk for the scripts of 1 to 64 clients, of the size of the encoder's pictures. The encoder has coded none, and is that of the recording.
     ///
     /// # Errors
     ///
     /// `NoMemory` where the allocator refuses. The scripts are then given up.
-    pub fn new(
-        alloc: Global,
-        size: Size,
-        effort: u32,
-        key: u32,
-        scripts: Scripts,
-    ) -> Result<Session, NoMemory>
-        requires effort { effort ≤ 2 }
+    pub fn new(alloc: Global, encoder: Encoder, scripts: Scripts) -> Result<Session, NoMemory>
+        requires fresh { StandsFor encoder [] }
+        requires sized { encoder.last.size ≡ encoder.settings.size }
         requires few { most_entries scripts < 2 ^ 32 - 1 }
-        ensures settings { IfOk result (λ session. session.settings ≡ plain size effort key) }
+        ensures settings { IfOk result (λ session. session.settings ≡ encoder.settings) }
         ensures scripts { IfOk result (λ session. session.scripts ≡ scripts) }
     {
         let cuts = cuts_of(&scripts);
-        let encoder = Encoder::new(alloc, size, effort, key)?;
-        let (desk, clients, recorder) = Desk::new(alloc, size, scripts)?;
+        let (desk, clients, recorder) = Desk::new(alloc, encoder.size(), scripts)?;
         Ok(Session {
             desk,
             clients,

@@ -165,7 +165,8 @@ fn record_both<R: Threads + Wait + Sync, G: Gate + Sync>(
     let Some(size) = Size::new(32, 32) else {
         return Err(NoMemory);
     };
-    let session = Session::new(alloc, size, 1, 0, two_scripts(alloc)?)?;
+    let encoder = Encoder::new(alloc, size, 1, 0)?;
+    let session = Session::new(alloc, encoder, two_scripts(alloc)?)?;
     Ok(session.run(rt, workers, sink, gate))
 }
 

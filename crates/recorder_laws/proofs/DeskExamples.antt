@@ -1,66 +1,20 @@
--- The desk, the wave, the words and the report, computed.
+-- The desk, the wave and the report, computed.
 use Rattle.std.specs.Prelude.{◌≡◌, ℕ, false, List, [], ◌∷◌, ◌++◌, map, codes, Ok, Some, None, unwrap_or, refl}
 use Rattle.std.specs.Fmt.{digits}
 use Rattle.h265_model.specs.Plain.{below}
 use Rattle.recorder_model.specs.declared.line.Line.{Line}
 use Rattle.recorder_model.specs.declared.line.Line.TheVariants.{Fill, Blit, Copy, Cut}
 use Rattle.recorder_model.specs.Script.{script_of, has_version_line, pieces_script, line_of, colours, number_up_to}
-use Rattle.recorder_model.specs.Words.{Serial, Demo, row_of}
 use Rattle.recorder_model.specs.Report.{report_text}
 use Rattle.recorder_model.specs.Desk.{touched_by}
 use Rattle.h265_model.specs.Wave.{Jobs, Event, Claim, Sync, Code, Publish, Finish, new_wave, allows_row, inherited, row_bytes, results}
 use Rattle.recorder_model.specs.Headline.{scripts_after, scripts_of}
 use Rattle.recorder_model.specs.Histories.{own_order}
 use Rattle.recorder_model.specs.Painting.{pictures, colour, raster, lines_of, rasters_after}
-use Rattle.h265_model.specs.Settings.{plain}
 
 report_1 : report_text 1 0 4693 ≡ codes "pictures 1" ++ 10 ∷ codes "paints 0" ++ 10 ∷ codes "bytes 4693" ++ 10 ∷ []
 unfolding digits
 report_1 = refl
-
-served : row_of (codes "serial" ∷ codes "32x32" ∷ codes "0" ∷ codes "1" ∷ codes "o" ∷ codes "f" ∷ []) ≡ Some (Serial (record { settings = plain (record { w = 32; h = 32 }) 0 1; out = codes "o"; file = codes "f" }))
-unfolding row_of number_up_to
-served = refl
-
-usage_0 : row_of ([]) ≡ None
-unfolding row_of number_up_to
-usage_0 = refl
-
-usage_1 : row_of (codes "serial" ∷ codes "0x5" ∷ codes "0" ∷ codes "1" ∷ codes "o" ∷ codes "f" ∷ []) ≡ None
-unfolding row_of number_up_to
-usage_1 = refl
-
-usage_2 : row_of (codes "serial" ∷ codes "032x32" ∷ codes "0" ∷ codes "1" ∷ codes "o" ∷ codes "f" ∷ []) ≡ None
-unfolding row_of number_up_to
-usage_2 = refl
-
-usage_3 : row_of (codes "serial" ∷ codes "4097x1" ∷ codes "0" ∷ codes "1" ∷ codes "o" ∷ codes "f" ∷ []) ≡ None
-unfolding row_of number_up_to
-usage_3 = refl
-
-usage_4 : row_of (codes "serial" ∷ codes "4096x2161" ∷ codes "0" ∷ codes "1" ∷ codes "o" ∷ codes "f" ∷ []) ≡ None
-unfolding row_of number_up_to
-usage_4 = refl
-
-usage_5 : row_of (codes "record" ∷ codes "32x32" ∷ codes "65" ∷ codes "0" ∷ codes "0" ∷ codes "o" ∷ codes "f" ∷ []) ≡ None
-unfolding row_of number_up_to
-usage_5 = refl
-
-usage_6 : row_of (codes "record" ∷ codes "32x32" ∷ codes "1" ∷ codes "0" ∷ codes "0" ∷ codes "o" ∷ []) ≡ None
-unfolding row_of number_up_to
-usage_6 = refl
-
-usage_7 : row_of (codes "serial" ∷ codes "32x32" ∷ codes "3" ∷ codes "1" ∷ codes "o" ∷ codes "f" ∷ []) ≡ None
-unfolding row_of number_up_to
-usage_7 = refl
-
-usage_8 : row_of (codes "demo" ∷ codes "18446744073709551616" ∷ []) ≡ None
-unfolding row_of number_up_to
-usage_8 = refl
-
-greatest : row_of (codes "demo" ∷ codes "18446744073709551615" ∷ []) ≡ Some (Demo 18446744073709551615)
-unfolding row_of number_up_to
-greatest = refl
 
 -- a rectangle over a corner of four tiles, one at the desktop's edge, and one outside
 corner : touched_by (record { w = 64; h = 64 }) (Fill (record { x = 31; y = 31; w = 2; h = 2 }) (record { r = 0; g = 0; b = 0 }) ∷ []) ≡ 0 ∷ 1 ∷ 2 ∷ 3 ∷ []

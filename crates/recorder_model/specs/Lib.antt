@@ -1,6 +1,5 @@
 pub mod Setting
 pub mod Script
-pub mod Words
 pub mod Painting
 pub mod Histories
 pub mod Files

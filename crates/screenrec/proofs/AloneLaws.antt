@@ -1,16 +1,20 @@
 -- One script alone: its report, and what stands after each status.
-use Rattle.std.proofs.Common.{◌≡◌, ℕ, suc, ◌+◌, ◌-◌, ◌≤◌, Bool, true, false, cond, List, [], ◌∷◌, ◌++◌, length, take, Option, Ok, Err, inr, refl, sym, ◌∙◌, ap, subst, arith}
+use Rattle.std.proofs.Common.{◌≡◌, ℕ, suc, ◌+◌, ◌-◌, ◌≤◌, ◌<◌, Bool, true, false, cond, List, [], ◌∷◌, ◌++◌, length, take, Option, Ok, Err, inr, refl, sym, ◌∙◌, ap, subst, arith}
 use Rattle.std.specs.Prelude.{count_by, not, IsTrue, fold, slice_index_or}
 use Rattle.std.specs.List.{All, AllByRecursion}
 use Rattle.std.specs.FinMap.{insert}
 use Rattle.std.proofs.Math.Seq.{take-length}
+use Rattle.std.proofs.lemmas.Bool.{false≢true}
 use Rattle.std.proofs.lemmas.List.{append-nil}
 use Rattle.recorder_model.specs.declared.entry.Entry.{Entry}
 use Rattle.recorder_model.specs.declared.line.Line.{Line}
 use Rattle.recorder_model.specs.declared.line.Line.TheVariants.{Fill, Blit, Copy, Cut}
-use Rattle.h265_model.specs.Plain.{Size, joined}
-use Rattle.recorder_model.specs.Words.{SerialWords}
-use Rattle.h265_model.specs.Settings.{is_size}
+use Rattle.h265_model.specs.declared.extra.Extra.{Extra}
+use Rattle.h265_model.specs.declared.extra.Extra.TheVariants.{Plain, Hash, Segments, Moves}
+use Rattle.h265_model.specs.Plain.{Size, coded, joined}
+use Rattle.command_line.specs.Views.{IsOfScript}
+use Rattle.command_line.specs.Words.{SerialWords}
+use Rattle.h265_model.specs.Settings.{Settings, is_size, has_segments}
 use Rattle.h265_model.specs.Raster.{Raster, IsColour}
 use Rattle.recorder_model.specs.Painting.{HasColours, pictures, rasters_after}
 use Rattle.h265_model.specs.Stream.{pieces, stream_of}
@@ -23,7 +27,7 @@ use Rattle.recorder_model.specs.Files.{Files, IsPrefix, WhereTold}
 use Rattle.edges.specs.declared.sink.WriteError.{WriteError}
 use Rattle.edges.specs.declared.sink.WriteError.TheVariants as write
 use Rattle.recorder_laws.proofs.PlayLaws.{cuts-own_order, paints-own_order, pictures-own_order, own_order-is_lawful, each_picture_is_raster}
-use Rattle.stream_laws.proofs.PlainStreams.{plain_streams_are_decoded}
+use Rattle.extra_laws.proofs.ExtraStreams.{extra_streams_are_decoded}
 use Rattle.paint_script.specs.Spellable.{IsSpellable, AreSpellable, IsSpellableColour}
 use Rattle.screenrec.specs.Stored.{IsStored, EndsIn}
 use Rattle.screenrec.specs.Recording.{Alone, serial_task, IsPlayedOut, IsPlayedInPart, scripts_in, IsFinished, IsBroken}
@@ -31,7 +35,6 @@ use Rattle.screenrec.specs.declared.outcome.Status.{Status}
 use Rattle.screenrec.specs.declared.outcome.Status.TheVariants as status
 use Rattle.screenrec.specs.Alone.{sink_status, IsOfReport, LeavesScript}
 use Rattle.screenrec.proofs.StoredLaws.{told_as, holds}
-use Rattle.h265_model.specs.declared.extra.Extra.TheVariants.{Plain}
 
 -- ---- the report
 
@@ -93,18 +96,25 @@ have_colours script h = all_by HasColours script (λ k d l. colours_of (slice_in
 pictures_are : (size : Size) (script : List Line) (order : List Entry) → order ≡ own_order (script ∷ []) → pictures size (script ∷ []) order ≡ rasters_after size [] script
 pictures_are size script order own = ap (pictures size (script ∷ [])) own ∙ pictures-own_order size script
 
--- settings within the limits
-abbrev pub AreWithin : SerialWords → Type 0
-AreWithin words = IsTrue (is_size words.settings.size) × (words.settings.extra ≡ Plain)
+-- settings within the limits: a row that is a slice segment has two coding tree units at least
+abbrev pub AreWithin : Settings → Type 0
+AreWithin settings = IsTrue (is_size settings.size) × (has_segments settings.extra ≡ true → 32 < coded settings.size.w)
+
+-- what the words of one script, and those of several clients, ask for
+pub wide_enough : (extra : Extra) (w : ℕ) → IsOfScript extra w → has_segments extra ≡ true → 32 < coded w
+wide_enough Plain w is e = absurd (false≢true e)
+wide_enough Hash w is e = absurd (false≢true e)
+wide_enough Segments w is e = omega (arith, is)
+wide_enough Moves w is e = absurd is
 
 module _ (words : SerialWords) where
-  decoded : (script : List Line) → AreWithin words → AreSpellable script →
+  decoded : (script : List Line) → AreWithin words.settings → AreSpellable script →
       decode (stream_of words.settings (rasters_after words.settings.size [] script)) ≡ Ok (words.settings.size, rasters_after words.settings.size [] script)
   decoded script within spelled =
-      plain_streams_are_decoded words.settings (rasters_after words.settings.size [] script) within.1 within.0
+      extra_streams_are_decoded words.settings (rasters_after words.settings.size [] script) within.0 within.1
       (each_picture_is_raster words.settings.size script (have_colours script spelled))
 
-  recorded : (script : List Line) (order : List Entry) (before after : Files) (written : ℕ) → AreWithin words → AreSpellable script → order ≡ own_order (script ∷ []) →
+  recorded : (script : List Line) (order : List Entry) (before after : Files) (written : ℕ) → AreWithin words.settings → AreSpellable script → order ≡ own_order (script ∷ []) →
       IsStored words.settings words.out script before after written → IsRecorded words.settings words.out (pictures words.settings.size (script ∷ []) order) before after written
   recorded script order before after written within spelled own s =
       subst (λ (ps : List Raster). IsRecorded words.settings words.out ps before after written) (sym (pictures_are words.settings.size script order own))
@@ -130,7 +140,7 @@ module _ (words : SerialWords) where
         counted = s.counted ∙ ap (λ (l : List (List ℕ)). length (joined l)) (sym all);
       }
 
-  finished : (script : List Line) (order : List Entry) (before after : Files) (written : ℕ) → AreWithin words → AreSpellable script → order ≡ own_order (script ∷ []) →
+  finished : (script : List Line) (order : List Entry) (before after : Files) (written : ℕ) → AreWithin words.settings → AreSpellable script → order ≡ own_order (script ∷ []) →
       IsStored words.settings words.out script before after written → scripts_in (serial_task words) before ≡ Ok (script ∷ []) → IsFinished (serial_task words) before after order written
   finished script order before after written within spelled own s accepted = record {
     scripts = script ∷ [];
@@ -151,7 +161,7 @@ module _ (words : SerialWords) where
     cut_short = cut_short_of script order before after written own s;
   }
 
-  leaves_whole : (script : List Line) (order : List Entry) (written : ℕ) (answer : Status) (x y : Files) → IsOfReport answer → AreWithin words → AreSpellable script →
+  leaves_whole : (script : List Line) (order : List Entry) (written : ℕ) (answer : Status) (x y : Files) → IsOfReport answer → AreWithin words.settings → AreSpellable script →
       order ≡ own_order (script ∷ []) → IsStored words.settings words.out script x y written → LeavesScript words script x y order written answer
   leaves_whole script order written status.Ok x y kind within spelled own s = λ accepted. finished script order x y written within spelled own s accepted
   leaves_whole script order written status.ReportFault x y kind within spelled own s = λ accepted. finished script order x y written within spelled own s accepted
@@ -169,7 +179,7 @@ module _ (words : SerialWords) where
   leaves_whole script order written (status.TooLarge f) x y kind within spelled own s = absurd kind
   leaves_whole script order written (status.BadStream at) x y kind within spelled own s = absurd kind
 
-  pub whole_files : (a b : Option Files) (script : List Line) (order : List Entry) (written : ℕ) (answer : Status) → IsOfReport answer → AreWithin words → AreSpellable script →
+  pub whole_files : (a b : Option Files) (script : List Line) (order : List Entry) (written : ℕ) (answer : Status) → IsOfReport answer → AreWithin words.settings → AreSpellable script →
       order ≡ own_order (script ∷ []) → WhereTold a b (λ before after. IsStored words.settings words.out script before after written) →
       WhereTold a b (λ before after. LeavesScript words script before after order written answer)
   whole_files a b script order written answer kind within spelled own told =

@@ -2,7 +2,7 @@
 use Rattle.std.proofs.Common.{◌≡◌, ℕ, List, [], ◌∷◌, take, Option, Err, inl, refl, sym, subst}
 use Rattle.std.specs.Prelude.{IsOk}
 use Rattle.recorder_model.specs.declared.entry.Entry.{Entry}
-use Rattle.recorder_model.specs.Words.{SerialWords}
+use Rattle.command_line.specs.Words.{SerialWords}
 use Rattle.recorder_model.specs.Headline.{IsUntouched, scripts_of, scripts_after, contents}
 use Rattle.recorder_model.specs.Files.{Files, WhereTold, file_at}
 use Rattle.screenrec.specs.declared.outcome.Status.{Status}

@@ -11,8 +11,8 @@ use Rattle.recorder_model.specs.declared.entry.Entry.TheVariants as entry
 use Rattle.recorder_model.specs.declared.line.Line.{Line}
 use Rattle.recorder_model.specs.declared.line.Line.TheVariants.{Cut}
 use Rattle.h265_model.specs.Plain.{joined}
-use Rattle.recorder_model.specs.Words.{RecordWords}
-use Rattle.h265_model.specs.Settings.{Settings, is_size}
+use Rattle.command_line.specs.Words.{RecordWords}
+use Rattle.h265_model.specs.Settings.{Settings}
 use Rattle.h265_model.specs.Raster.{Raster}
 use Rattle.recorder_model.specs.Painting.{HasColours, accepted_line, lines_of, pictures}
 use Rattle.h265_model.specs.Stream.{pieces, pieces_after, stream_of}
@@ -23,7 +23,7 @@ use Rattle.recorder_model.specs.Headline.{IsPlayed, IsRecorded, IsCutShort, repo
 use Rattle.recorder_model.specs.Files.{Files, file_at, IsPrefix, WhereTold}
 use Rattle.recorder_model.specs.FileLaws.{told_on, file_at-insert}
 use Rattle.recorder_laws.proofs.PlayLaws.{each_picture_is_raster}
-use Rattle.stream_laws.proofs.PlainStreams.{plain_streams_are_decoded}
+use Rattle.extra_laws.proofs.ExtraStreams.{extra_streams_are_decoded}
 use Rattle.edges.specs.Shelf.{Creates}
 use Rattle.paint_script.specs.Spellable.{IsSpellable, AreSpellable}
 use Rattle.desk_state.specs.Standing.{most_entries}
@@ -41,10 +41,9 @@ use Rattle.screenrec.specs.Alone.{IsOfReport}
 use Rattle.screenrec.specs.Recording as recording
 use Rattle.screenrec.specs.Recording.{Together, IsPlayedInPart, IsWholePieces, record_task, scripts_in, IsFinished, IsBroken}
 use Rattle.screenrec.specs.Together.{written_of, recorded_status, EndsInFile, IsShortOrder, Reported, LeavesScripts}
-use Rattle.screenrec.proofs.AloneLaws.{count_both, colours_of}
+use Rattle.screenrec.proofs.AloneLaws.{AreWithin, count_both, colours_of}
 use Rattle.screenrec.proofs.FileParts.{ends_from}
 use Rattle.screenrec.proofs.StoredLaws.{told_as}
-use Rattle.h265_model.specs.declared.extra.Extra.TheVariants.{Plain}
 
 -- ---- counts
 
@@ -164,10 +163,6 @@ whole_is settings ps wanted e = ap joined (take_all (wanted + 1) (pieces setting
 
 -- ---- what stands after each status
 
--- settings within the limits
-abbrev pub AreWithin : RecordWords → Type 0
-AreWithin words = IsTrue (is_size words.settings.size) × (words.settings.extra ≡ Plain)
-
 module _ (words : RecordWords) (scripts : List (List Line)) (order : List Entry) (x z : Files) where
   abbrev ps : List Raster
   ps = pictures words.settings.size scripts order
@@ -175,13 +170,13 @@ module _ (words : RecordWords) (scripts : List (List Line)) (order : List Entry)
   abbrev Stands : RecordEnd → Type 0
   Stands answer = EndsInFile words.settings words.out ps (all_cuts scripts) (takes order) x z answer
 
-  recorded : (written : ℕ) → AreWithin words → All AreSpellable scripts → IsPlayed scripts order → Stands (end.Ok written) → IsRecorded words.settings words.out ps x z written
+  recorded : (written : ℕ) → AreWithin words.settings → All AreSpellable scripts → IsPlayed scripts order → Stands (end.Ok written) → IsRecorded words.settings words.out ps x z written
   recorded written within spelled is s =
       let many : length ps ≡ all_cuts scripts = length-rasters_after words.settings.size [] (lines_of scripts order) ∙ sym is.taken ∙ s.all in
       let whole : first_pieces words.settings ps (all_cuts scripts + 1) ≡ stream_of words.settings ps = whole_is words.settings ps (all_cuts scripts) many in
       record {
         stored = s.stored ∙ ap (insert x words.out) whole;
-        decodes = plain_streams_are_decoded words.settings ps within.1 within.0
+        decodes = extra_streams_are_decoded words.settings ps within.0 within.1
             (each_picture_is_raster words.settings.size (lines_of scripts order) (order_has_colours scripts order spelled));
         counted = s.counted ∙ ap length whole;
       }
@@ -198,7 +193,7 @@ module _ (words : RecordWords) (scripts : List (List Line)) (order : List Entry)
   cut_short (end.NoMemory written) s = s.0
   cut_short (end.Ended written) s = s.0
 
-  finished : (written : ℕ) → AreWithin words → All AreSpellable scripts → IsPlayed scripts order → Stands (end.Ok written) → scripts_in (record_task words) x ≡ Ok scripts →
+  finished : (written : ℕ) → AreWithin words.settings → All AreSpellable scripts → IsPlayed scripts order → Stands (end.Ok written) → scripts_in (record_task words) x ≡ Ok scripts →
       IsFinished (record_task words) x z order written
   finished written within spelled is s accepted = record {
     scripts = scripts;
@@ -227,7 +222,7 @@ module _ (words : RecordWords) (scripts : List (List Line)) (order : List Entry)
   whole_file : (written : ℕ) → Stands (end.Ok written) → IsWholePieces words.out z written
   whole_file written s = s.counted ∙ ap length (sym (ap (λ (m : Files). file_at m words.out) s.stored ∙ file_at-insert x words.out (first_pieces words.settings ps (all_cuts scripts + 1))))
 
-  reported : (written : ℕ) (s : Status) → IsOfReport s → AreWithin words → All AreSpellable scripts → IsPlayed scripts order → Stands (end.Ok written) → LeavesScripts words scripts x z order written s
+  reported : (written : ℕ) (s : Status) → IsOfReport s → AreWithin words.settings → All AreSpellable scripts → IsPlayed scripts order → Stands (end.Ok written) → LeavesScripts words scripts x z order written s
   reported written status.Ok kind within spelled is s = λ accepted. finished written within spelled is s accepted
   reported written status.ReportFault kind within spelled is s = λ accepted. finished written within spelled is s accepted
   reported written status.NoMemory kind within spelled is s = in_part (end.Ok written) status.NoMemory is.lawful (λ _. whole_file written s) refl s
@@ -239,7 +234,7 @@ module _ (words : RecordWords) (scripts : List (List Line)) (order : List Entry)
   reported written (status.TooLarge f) kind within spelled is s = absurd kind
   reported written (status.BadStream at) kind within spelled is s = absurd kind
 
-  leaves : (lost : Bool) (answer : RecordEnd) (s : Status) → AreWithin words → All AreSpellable scripts → IsOrder scripts order lost answer → Reported (recorded_status lost answer) s →
+  leaves : (lost : Bool) (answer : RecordEnd) (s : Status) → AreWithin words.settings → All AreSpellable scripts → IsOrder scripts order lost answer → Reported (recorded_status lost answer) s →
       Stands answer → LeavesScripts words scripts x z order (written_of answer) s
   leaves true answer s within spelled is kind stands = in_part answer s is.lawful (λ all. absurd (is.misses refl all)) kind stands
   leaves false (end.Ok written) s within spelled is kind stands = reported written s kind within spelled (is.played written refl refl) stands
@@ -251,7 +246,7 @@ module _ (words : RecordWords) (scripts : List (List Line)) (order : List Entry)
 
 -- what stands once the file was made and the session was recorded into it
 pub recorded_files : (words : RecordWords) (scripts : List (List Line)) (order found : List Entry) (written : ℕ) (settings : Settings) (played : List (List Line)) (a b c : Option Files)
-    (lost : Bool) (answer : RecordEnd) (s : Status) → settings ≡ words.settings → played ≡ scripts → AreWithin words → All AreSpellable scripts → found ≡ order → written ≡ written_of answer →
+    (lost : Bool) (answer : RecordEnd) (s : Status) → settings ≡ words.settings → played ≡ scripts → AreWithin words.settings → All AreSpellable scripts → found ≡ order → written ≡ written_of answer →
     IsOrder played order lost answer → Reported (recorded_status lost answer) s → WhereTold a b (λ before after. Creates words.out before after (Ok tt)) →
     WhereTold b c (λ before after. file_at before words.out ≡ [] →
     EndsInFile settings words.out (pictures settings.size played order) (all_cuts played) (takes order) before after answer) →

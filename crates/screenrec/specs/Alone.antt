@@ -2,7 +2,7 @@
 use Rattle.std.specs.Prelude.{◌≡◌, ℕ, ◌++◌, List, [], ◌∷◌, Result, Ok, Err}
 use Rattle.recorder_model.specs.declared.entry.Entry.{Entry}
 use Rattle.recorder_model.specs.declared.line.Line.{Line}
-use Rattle.recorder_model.specs.Words.{SerialWords}
+use Rattle.command_line.specs.Words.{SerialWords}
 use Rattle.recorder_model.specs.Histories.{own_order}
 use Rattle.recorder_model.specs.Files.{Files, IsPrefix}
 use Rattle.recorder_model.specs.Headline.{report_of}

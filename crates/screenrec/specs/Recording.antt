@@ -2,7 +2,7 @@
 use Rattle.std.specs.Prelude.{◌≡◌, ◌≢◌, ◌⊎◌, ℕ, ◌<◌, ◌++◌, List, [], ◌∷◌, length, take, Option, Some, None, Result, Ok, Err, IsOk}
 use Rattle.recorder_model.specs.declared.entry.Entry.{Entry}
 use Rattle.recorder_model.specs.declared.line.Line.{Line}
-use Rattle.recorder_model.specs.Words.{SerialWords, RecordWords, DecodeWords, Row, Record, Serial, Demo, Decode}
+use Rattle.command_line.specs.Words.{SerialWords, RecordWords, DecodeWords, Row, Record, Serial, Demo, Decode}
 use Rattle.h265_model.specs.Settings.{Settings}
 use Rattle.recorder_model.specs.Painting.{pictures}
 use Rattle.recorder_model.specs.Histories.{IsLawful, Merges, own_order}

@@ -1,5 +1,5 @@
 -- The words behind `serial`, `record` and `decode`, as the definitions see them.
-use Rattle.recorder_model.specs.Words as words
+use Rattle.command_line.specs.Words as words
 use Rattle.command_line.specs.declared.row.SerialWords.{SerialWords}
 use Rattle.command_line.specs.declared.row.RecordWords.{RecordWords}
 use Rattle.command_line.specs.declared.row.DecodeWords.{DecodeWords}

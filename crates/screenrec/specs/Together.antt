@@ -3,7 +3,7 @@ use Rattle.std.specs.Prelude.{◌≡◌, ℕ, ◌+◌, ◌<◌, ◌^◌, ◌++�
 use Rattle.std.specs.FinMap.{insert}
 use Rattle.recorder_model.specs.declared.entry.Entry.{Entry}
 use Rattle.recorder_model.specs.declared.line.Line.{Line}
-use Rattle.recorder_model.specs.Words.{RecordWords}
+use Rattle.command_line.specs.Words.{RecordWords}
 use Rattle.h265_model.specs.Settings.{Settings}
 use Rattle.h265_model.specs.Raster.{Raster}
 use Rattle.recorder_model.specs.Files.{Files, IsPrefix}

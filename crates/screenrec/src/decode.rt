@@ -3,7 +3,7 @@ ghost use Rattle.std.specs.Prelude.{◌≡◌, ◌≤◌, ◌^◌, [], ◌∷◌
 ghost use Rattle.std.specs.FinMap.{insert};
 ghost use Rattle.h265_model.specs.Decode.{decode};
 ghost use Rattle.recorder_model.specs.Files.{Files, WhereTold, Rose, file_at};
-ghost use Rattle.recorder_model.specs.Words.{row_of};
+ghost use Rattle.command_line.specs.Words.{row_of};
 ghost use Rattle.command_line.specs.Views.{texts};
 ghost use Rattle.edges.specs.Causes.{HasWriteCause};
 ghost use Rattle.screenrec.specs.Accepted.{HasInputCause};

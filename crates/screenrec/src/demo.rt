@@ -3,10 +3,10 @@ ghost use Rattle.std.specs.Prelude.{◌≡◌, ◌≤◌, ◌<◌, ◌⊎◌, �
 ghost use Rattle.recorder_model.specs.declared.line.Line.{Line};
 ghost use Rattle.recorder_model.specs.Files.{WhereTold, Rose};
 ghost use Rattle.h265_model.specs.Settings as model;
-ghost use Rattle.recorder_model.specs.Words.{row_of};
+ghost use Rattle.command_line.specs.Words.{row_of};
 ghost use Rattle.recorder_model.specs.Painting.{accepted_line};
 ghost use Rattle.recorder_model.specs.Histories.{script_length};
-ghost use Rattle.command_line.specs.Views.{texts, settings_view};
+ghost use Rattle.command_line.specs.Views.{texts, settings_view, IsWithinLimits};
 ghost use Rattle.paint_script.specs.Spellable.{IsSpellable};
 ghost use Rattle.screen_gen.specs.Generated.{generated};
 ghost use Rattle.screenrec.specs.declared.outcome.Status.TheVariants as status;
@@ -21,7 +21,7 @@ use crate::stream_file::line_at;
 use crate::{Outcome, Status};
 use command_line::{Row, Settings, read_words};
 use edges::{Sink, WriteError};
-use h265_model::NoMemory;
+use h265_model::{Extra, NoMemory};
 use paint_script::Scripts;
 use px_plane::Size;
 use recorder_model::{Entry, History, Line};
@@ -130,7 +130,7 @@ fn play_rounds(alloc: Global, scripts: &Scripts) -> Result<Played, NoMemory>
 // How a demo is coded.
 fn demo_settings() -> Settings
     ensures settings { settings_view result ≡ demo_settings }
-    ensures effort { result.effort ≤ 2 }
+    ensures within { IsWithinLimits result }
 {
     let Some(size) = Size::new(640, 360) else {
         unreachable!()
@@ -139,6 +139,7 @@ fn demo_settings() -> Settings
         size,
         effort: 1,
         key: 4,
+        extra: Extra::Plain,
     }
 }
 

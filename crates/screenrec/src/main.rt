@@ -2,6 +2,7 @@
 #![tactic(auto)]
 
 mod alone;
+mod coder;
 mod complaint;
 mod decode;
 mod demo;
@@ -30,7 +31,7 @@ use std::process::ExitCode;
 use std::rt::Env;
 use std::{env, fs};
 
-/// Serves the words by the call that their first one names, and exits with the number of the status. Where that isn't 0,
+/// Serves the words by the call that the first of them name, and exits with the number of the status. Where that isn't 0,
 /// one line on standard error says why.
 fn main(rt: HostRuntime) -> ExitCode {
     // The number of a standard stream that is closed would go to the next file that is opened, and OUT would get the
@@ -48,10 +49,14 @@ fn main(rt: HostRuntime) -> ExitCode {
     };
     let mut shelf = DiskShelf::new(alloc, &rt);
     let mut report = StreamSink::new(&rt);
-    let outcome = match words.first().copied().unwrap_or("") {
-        "serial" => run_serial(alloc, &words, &mut shelf, &mut report),
-        "demo" => run_demo(alloc, &words, &mut report),
-        "decode" => run_decode(alloc, &words, &mut shelf, &mut report),
+    let first = words.first().copied().unwrap_or("");
+    let second = words.get(1).copied().unwrap_or("");
+    let outcome = match (first, second) {
+        ("serial", _) | ("hash" | "segments", "serial") => {
+            run_serial(alloc, &words, &mut shelf, &mut report)
+        }
+        ("demo", _) => run_demo(alloc, &words, &mut report),
+        ("decode", _) => run_decode(alloc, &words, &mut shelf, &mut report),
         _ => run(&rt, alloc, &words, &mut shelf, &mut report, &NoGate),
     };
     finish(&rt, outcome.status)

@@ -4,7 +4,7 @@ ghost use Rattle.std.specs.List.{All};
 ghost use Rattle.recorder_model.specs.Headline.{most_lines, most_cuts, contents};
 ghost use Rattle.recorder_model.specs.Files.{WhereTold, file_at};
 ghost use Rattle.recorder_model.specs.Script.{is_cut};
-ghost use Rattle.recorder_model.specs.Words.{most_clients};
+ghost use Rattle.command_line.specs.Words.{most_clients};
 ghost use Rattle.command_line.specs.Views.{texts};
 ghost use Rattle.paint_script.specs.Spellable.{AreSpellable};
 ghost use Rattle.screenrec.specs.Accepted.{name_at, Accepts, AcceptsAll, AreFew, IsOfTheFile, IsOfReading, HasInputCause, HasRoomFor};

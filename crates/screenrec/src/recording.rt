@@ -1,7 +1,7 @@
 //! Every row of words.
 ghost use Rattle.std.specs.Prelude.{◌≡◌};
 ghost use Rattle.recorder_model.specs.Files.{WhereTold};
-ghost use Rattle.recorder_model.specs.Words.{row_of};
+ghost use Rattle.command_line.specs.Words.{row_of};
 ghost use Rattle.command_line.specs.Views.{texts};
 ghost use Rattle.screenrec.specs.Answers.{counts, HasCauses, IsSilent};
 ghost use Rattle.screenrec.specs.Recording.{run_service, Answers, RefusesEmpty, NamesFile, Leaves, Reports, IsComplete, TellsDemo, IsCompleteDemo};

@@ -4,15 +4,15 @@ ghost use Rattle.recorder_model.specs.declared.line.Line.{Line};
 ghost use Rattle.recorder_model.specs.declared.line.Line.TheVariants as line;
 ghost use Rattle.h265_model.specs.Settings as model;
 ghost use Rattle.recorder_model.specs.Script.{is_cut};
-ghost use Rattle.command_line.specs.Views.{settings_view};
+ghost use Rattle.command_line.specs.Views.{settings_view, IsWithinLimits};
 ghost use Rattle.desk_surface.specs.Damage.{HasPixels};
 ghost use Rattle.screenrec.specs.Stored.{stream_after, cut_piece};
 ghost use Rattle.screenrec.specs.Played.{HasPlayed, IsPlayed};
 
+use crate::coder::Coder;
 use command_line::Settings;
 use desk_surface::Surface;
 use h265_model::NoMemory;
-use picture_encoder::Encoder;
 use recorder_model::Line;
 use std::alloc::Global;
 
@@ -20,7 +20,7 @@ use std::alloc::Global;
 #[derive(Drop)]
 pub struct Stage {
     surface: Surface,
-    encoder: Encoder,
+    encoder: Coder,
     // How many pictures were cut.
     cuts: u32,
 }
@@ -32,11 +32,11 @@ impl Stage {
     ///
     /// `NoMemory` where the allocator refuses the desktop or the encoder.
     pub fn new(alloc: Global, settings: &Settings) -> Result<Stage, NoMemory>
-        requires { settings.now.effort ≤ 2 }
+        requires { IsWithinLimits settings.now }
         ensures { IfOk result (λ stage. HasPlayed (settings_view settings.now) stage []) }
     {
         let surface = Surface::new(alloc, settings.size)?;
-        let encoder = Encoder::new(alloc, settings.size, settings.effort, settings.key)?;
+        let encoder = Coder::new(alloc, settings)?;
         Ok(Stage {
             surface,
             encoder,
@@ -87,7 +87,7 @@ impl Stage {
         ensures short { IfOk result (λ piece. length piece.items < 2 ^ 40) }
     {
         let job = self.surface.cut_job(self.cuts)?;
-        let piece = self.encoder.next_alone(&job)?;
+        let piece = self.encoder.next(&job)?;
         self.cuts += 1;
         Ok(piece)
     }

@@ -8,7 +8,7 @@ ghost use Rattle.h265_model.specs.Settings as model;
 ghost use Rattle.recorder_model.specs.Headline.{most_lines};
 ghost use Rattle.edges.specs.Causes.{HasWriteCause};
 ghost use Rattle.paint_script.specs.Spellable.{IsSpellable, AreSpellable};
-ghost use Rattle.command_line.specs.Views.{settings_view};
+ghost use Rattle.command_line.specs.Views.{settings_view, IsWithinLimits};
 ghost use Rattle.screenrec.specs.Stored.{stream_after, cut_piece, AppendsPiece, Continues, EndsIn};
 ghost use Rattle.screenrec.specs.Played.{HasPlayed, IsPlayed};
 ghost use Rattle.screenrec.specs.Endings.{ending_of, EndsAnew};
@@ -140,7 +140,7 @@ pub fn write_stream<F: Shelf>(
     name: &str,
     shelf: &mut F,
 ) -> Result<Ending, WriteError>
-    requires effort { settings.now.effort ≤ 2 }
+    requires within { IsWithinLimits settings.now }
     requires few { length script.now.lines ≤ most_lines }
     ensures cause { HasWriteCause (F.write_faults shelf.old) (F.write_faults shelf.new) (ending_of result) }
     ensures reads { F.read_faults shelf.new ≡ F.read_faults shelf.old }
@@ -162,7 +162,7 @@ struct Start {
 }
 
 fn make_start(alloc: Global, settings: &Settings) -> Result<Start, NoMemory>
-    requires effort { settings.now.effort ≤ 2 }
+    requires within { IsWithinLimits settings.now }
     ensures played { IfOk result (λ start. HasPlayed (settings_view settings.now) start.stage []) }
     ensures first { IfOk result (λ start. start.first.items ≡ stream_after start.stage.encoder.settings []) }
     ensures short { IfOk result (λ start. length start.first.items < 2 ^ 40) }

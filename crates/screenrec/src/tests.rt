@@ -2,6 +2,7 @@
 mod cases;
 mod decode;
 mod demo;
+mod extras;
 mod faults;
 mod large;
 mod together;
@@ -20,7 +21,7 @@ fn digest(bytes: &[u8]) -> u64 {
     digest
 }
 
-// Records the script over a shelf in memory, and compares what comes of it.
+// Records the script over a shelf in memory, and compares what comes of it, and of its stream decoded.
 fn record(rt: &(impl std::process::Abort + AllocGlobal), case: &Case) -> Result<(), Fail> {
     let alloc = rt.alloc();
     let mut shelf = CalmShelf::new(alloc)?;
@@ -36,6 +37,9 @@ fn record(rt: &(impl std::process::Abort + AllocGlobal), case: &Case) -> Result<
     assert_eq!(rt; stream.len() as u64, bytes);
     assert_eq!(rt; digest(stream), case.digest);
     assert_eq!(rt; report.text(), text.as_bytes());
+    let decoded = run_decode(alloc, &["decode", "o", "p"], &mut shelf, &mut report);
+    assert_eq!(rt; decoded.status, Status::Ok);
+    assert_eq!(rt; digest(shelf.file("p").ok_or("no frames")?), case.frames);
     Ok(())
 }
 

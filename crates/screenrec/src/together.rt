@@ -1,5 +1,5 @@
 //! The scripts of several clients, recorded together.
-ghost use Rattle.std.specs.Prelude.{◌≡◌, ◌≤◌, ◌<◌, ◌^◌, ◌∷◌, [], List, length};
+ghost use Rattle.std.specs.Prelude.{◌≡◌, ◌≤◌, ◌<◌, ◌^◌, ◌-◌, ◌∷◌, [], List, length, IfOk};
 ghost use Rattle.std.specs.List.{All};
 ghost use Rattle.recorder_model.specs.declared.line.Line.{Line};
 ghost use Rattle.recorder_model.specs.Files.{WhereTold, Rose, file_at};
@@ -9,7 +9,8 @@ ghost use Rattle.recorder_model.specs.Headline.{IsPlayed};
 ghost use Rattle.edges.specs.Causes.{HasWriteCause};
 ghost use Rattle.edges.specs.Sunk.{IsThere};
 ghost use Rattle.paint_script.specs.Spellable.{AreSpellable};
-ghost use Rattle.command_line.specs.Views.{IsWithinLimits, RowIsWithinLimits, texts};
+ghost use Rattle.command_line.specs.Views.{settings_view, IsOfClients, RowIsWithinLimits, texts};
+ghost use Rattle.desk_state.specs.Standing.{most_entries};
 ghost use Rattle.command_line.specs.declared.row.Row.TheVariants as row;
 ghost use Rattle.recorder.specs.Ends.{HasEndCause};
 ghost use Rattle.recorder.specs.Sessions.{IsOrder, all_cuts};
@@ -21,12 +22,14 @@ ghost use Rattle.screenrec.specs.Served.{record_view};
 ghost use Rattle.screenrec.specs.Together.{written_of, recorded_status, EndsInFile, IsShortOrder, Reported, ReportsOrder, LeavesScripts};
 
 use crate::alone::status_of;
+use crate::coder::encoder_for;
 use crate::paint_file::read_paints;
 use crate::report::write_report;
 use crate::{Outcome, Status};
-use command_line::RecordWords;
+use command_line::{RecordWords, Settings};
 use edges::{FileSink, Shelf, Sink, WriteError};
 use gate::Gate;
+use h265_model::NoMemory;
 use paint_script::Scripts;
 use recorder::{RecordEnd, Recording, Session};
 use recorder_model::{Entry, History};
@@ -72,6 +75,17 @@ pub fn serve_together<R: Threads + Wait + Sync, F: Shelf + Send, K: Sink, G: Gat
     }
 }
 
+// A session of accepted scripts, at which nothing was played.
+fn open_session(alloc: Global, settings: &Settings, scripts: Scripts) -> Result<Session, NoMemory>
+    requires effort { settings.now.effort ≤ 2 }
+    requires extra { IsOfClients settings.now.extra }
+    requires few { most_entries scripts < 2 ^ 32 - 1 }
+    ensures settings { IfOk result (λ session. session.settings ≡ settings_view settings.now) }
+    ensures scripts { IfOk result (λ session. session.scripts ≡ scripts) }
+{
+    Session::new(alloc, encoder_for(alloc, settings)?, scripts)
+}
+
 // Records accepted scripts, and reports them.
 fn record_scripts<R: Threads + Wait + Sync, F: Shelf + Send, K: Sink, G: Gate + Sync>(
     rt: &R,
@@ -100,8 +114,7 @@ fn record_scripts<R: Threads + Wait + Sync, F: Shelf + Send, K: Sink, G: Gate + 
 {
     let settings = words.settings;
     let _width = settings.size.w();
-    let Ok(session) = Session::new(alloc, settings.size, settings.effort, settings.key, scripts)
-    else {
+    let Ok(session) = open_session(alloc, &settings, scripts) else {
         return Outcome::refused(alloc, Status::NoMemory);
     };
     if let Err(error) = shelf.create(words.out) {

@@ -212,11 +212,12 @@ fn is_next(encoder: &Encoder, job: &Job) -> bool
     ensures number { IsTrue result → job.now.number ≡ encoder.now.count }
     ensures few { IsTrue result → encoder.now.count < 2 ^ 32 - 1 }
 {
-    let size = encoder.size;
+    let size = encoder.history.size();
+    let next = encoder.history.count();
     let count = (size.w() + 31) / 32 * ((size.h() + 31) / 32);
     let (tiles, samples) = (job.tiles.as_slice(), job.samples.as_slice());
-    job.number == encoder.count
-        && encoder.count < u32::MAX
+    job.number == next
+        && next < u32::MAX
         && samples.len() / 3072 == tiles.len()
         && samples.len() % 3072 == 0
         && tiles.iter().all(|tile| *tile < count)
@@ -267,7 +268,7 @@ fn few_tiles_keep_the_picture_before(rt: HostRuntime) -> Result<(), Fail> {
                 assert!(rt; is_next(&encoder, &job));
                 let _piece = next_piece(&rt, &mut encoder, &job, workers)?;
             }
-            let made = encoder.made_again();
+            let made = encoder.history.made_again();
             assert_eq!(rt;
                 made.is_some(),
                 MADE_AGAIN[cuts],

@@ -10,6 +10,7 @@ use gate::NoGate;
 use h265_model::{Rect, Rgb};
 use live_desk::{Scripts, Size};
 use paint_script::Script;
+use picture_encoder::Encoder;
 use recorder_model::Line;
 use std::alloc::Global;
 use std::sync::Wait;
@@ -133,7 +134,8 @@ fn record<R: Threads + Wait + Sync>(
     let Some(size) = Size::new(96, 64) else {
         return Err(NoMemory);
     };
-    let session = Session::new(alloc, size, 0, 0, scripts)?;
+    let encoder = Encoder::new(alloc, size, 0, 0)?;
+    let session = Session::new(alloc, encoder, scripts)?;
     Ok(session.run(rt, workers, sink, &NoGate))
 }
 

@@ -1,6 +1,6 @@
 //! Scripts, what their recordings report, and the digests of their streams, as an independent model gives them.
 
-/// A recording, what it reports, and the digest of its stream.
+/// A recording, what it reports, and the digests of its stream and of the frames to which that is decoded.
 pub struct Case {
     pub size: &'static str,
     pub effort: &'static str,
@@ -10,6 +10,7 @@ pub struct Case {
     pub paints: u32,
     pub bytes: u64,
     pub digest: u64,
+    pub frames: u64,
 }
 
 pub const CASES: [Case; 53] = [
@@ -22,6 +23,7 @@ pub const CASES: [Case; 53] = [
         paints: 0,
         bytes: 4693,
         digest: 0x7374a058da456eec,
+        frames: 0x224073814cfaa235,
     },
     Case {
         size: "32x32",
@@ -32,6 +34,7 @@ pub const CASES: [Case; 53] = [
         paints: 1,
         bytes: 3158,
         digest: 0x782bbc50519cee05,
+        frames: 0xb6de8bd3e473f635,
     },
     Case {
         size: "32x32",
@@ -42,6 +45,7 @@ pub const CASES: [Case; 53] = [
         paints: 0,
         bytes: 74,
         digest: 0xd05d3053cc8d87ea,
+        frames: 0xcbf29ce484222325,
     },
     Case {
         size: "32x32",
@@ -52,6 +56,7 @@ pub const CASES: [Case; 53] = [
         paints: 0,
         bytes: 9312,
         digest: 0xfa2950cd548b895a,
+        frames: 0x99788727f1c0c4c5,
     },
     Case {
         size: "32x32",
@@ -62,6 +67,7 @@ pub const CASES: [Case; 53] = [
         paints: 1,
         bytes: 4691,
         digest: 0x520cea684c101fb4,
+        frames: 0x19902f81480ce251,
     },
     Case {
         size: "32x32",
@@ -72,6 +78,7 @@ pub const CASES: [Case; 53] = [
         paints: 3,
         bytes: 8252,
         digest: 0xce24430310e517e6,
+        frames: 0xf8d295ff313a480d,
     },
     Case {
         size: "32x32",
@@ -82,6 +89,7 @@ pub const CASES: [Case; 53] = [
         paints: 1,
         bytes: 4685,
         digest: 0x175a159df041ab74,
+        frames: 0x7160ff903355eec5,
     },
     Case {
         size: "32x32",
@@ -92,6 +100,7 @@ pub const CASES: [Case; 53] = [
         paints: 1,
         bytes: 4693,
         digest: 0x7374a058da456eec,
+        frames: 0x224073814cfaa235,
     },
     Case {
         size: "32x32",
@@ -102,6 +111,7 @@ pub const CASES: [Case; 53] = [
         paints: 2,
         bytes: 9224,
         digest: 0x1410ec115d13e522,
+        frames: 0x84cbceafffc629fd,
     },
     Case {
         size: "32x32",
@@ -112,6 +122,7 @@ pub const CASES: [Case; 53] = [
         paints: 5,
         bytes: 8688,
         digest: 0x74b452ad17ead3d0,
+        frames: 0xbc0890a368c627f7,
     },
     Case {
         size: "32x32",
@@ -122,6 +133,7 @@ pub const CASES: [Case; 53] = [
         paints: 8,
         bytes: 7202,
         digest: 0x2e8af0a19cd84f1a,
+        frames: 0x60646255b35a2e2b,
     },
     Case {
         size: "32x32",
@@ -132,6 +144,7 @@ pub const CASES: [Case; 53] = [
         paints: 10,
         bytes: 12499,
         digest: 0x541beb9bf9e77b9a,
+        frames: 0xe3b96dce832ce053,
     },
     Case {
         size: "32x32",
@@ -142,6 +155,7 @@ pub const CASES: [Case; 53] = [
         paints: 0,
         bytes: 74,
         digest: 0xd05d3053cc8d87ea,
+        frames: 0xcbf29ce484222325,
     },
     Case {
         size: "32x32",
@@ -152,6 +166,7 @@ pub const CASES: [Case; 53] = [
         paints: 0,
         bytes: 4704,
         digest: 0xb5524a7f10d24362,
+        frames: 0x99788727f1c0c4c5,
     },
     Case {
         size: "8x8",
@@ -162,6 +177,7 @@ pub const CASES: [Case; 53] = [
         paints: 1,
         bytes: 84,
         digest: 0x602f38af816accf4,
+        frames: 0x7f0a6e6af4ed9fbb,
     },
     Case {
         size: "8x8",
@@ -172,6 +188,7 @@ pub const CASES: [Case; 53] = [
         paints: 0,
         bytes: 372,
         digest: 0x088cedcd231d41e5,
+        frames: 0x084b5c9da26e9fbb,
     },
     Case {
         size: "32x96",
@@ -182,6 +199,7 @@ pub const CASES: [Case; 53] = [
         paints: 0,
         bytes: 13925,
         digest: 0x4f9b3de3bea93f0e,
+        frames: 0xe54179799b29a0c7,
     },
     Case {
         size: "64x64",
@@ -192,6 +210,7 @@ pub const CASES: [Case; 53] = [
         paints: 0,
         bytes: 18529,
         digest: 0x7ab4324f78ee7b21,
+        frames: 0x7fb011f6e6f47afb,
     },
     Case {
         size: "96x64",
@@ -202,6 +221,7 @@ pub const CASES: [Case; 53] = [
         paints: 0,
         bytes: 27747,
         digest: 0xfe76b5bd8fd113be,
+        frames: 0x5c860f67aae555da,
     },
     Case {
         size: "33x17",
@@ -212,6 +232,7 @@ pub const CASES: [Case; 53] = [
         paints: 0,
         bytes: 4415,
         digest: 0x5b79f00d3ced0a45,
+        frames: 0xad4853419fb3843f,
     },
     Case {
         size: "8x16",
@@ -222,6 +243,7 @@ pub const CASES: [Case; 53] = [
         paints: 6,
         bytes: 287,
         digest: 0xc4ada0dae1096d96,
+        frames: 0x38de018786c1836d,
     },
     Case {
         size: "32x32",
@@ -232,6 +254,7 @@ pub const CASES: [Case; 53] = [
         paints: 1,
         bytes: 4704,
         digest: 0xb5524a7f10d24362,
+        frames: 0x99788727f1c0c4c5,
     },
     Case {
         size: "32x32",
@@ -242,6 +265,7 @@ pub const CASES: [Case; 53] = [
         paints: 0,
         bytes: 13953,
         digest: 0x431838a76a8c750c,
+        frames: 0x2c272f00c8829af5,
     },
     Case {
         size: "1x1",
@@ -252,6 +276,7 @@ pub const CASES: [Case; 53] = [
         paints: 6,
         bytes: 703,
         digest: 0xc643f587d01d9eeb,
+        frames: 0x9227d0a5fecece99,
     },
     Case {
         size: "1x1",
@@ -262,6 +287,7 @@ pub const CASES: [Case; 53] = [
         paints: 6,
         bytes: 1275,
         digest: 0x07aeb15b0f6b3c5c,
+        frames: 0x9227d0a5fecece99,
     },
     Case {
         size: "1x1",
@@ -272,6 +298,7 @@ pub const CASES: [Case; 53] = [
         paints: 6,
         bytes: 703,
         digest: 0xc643f587d01d9eeb,
+        frames: 0x9227d0a5fecece99,
     },
     Case {
         size: "1x1",
@@ -282,6 +309,7 @@ pub const CASES: [Case; 53] = [
         paints: 6,
         bytes: 1560,
         digest: 0xe8ebb644f2a872eb,
+        frames: 0x9227d0a5fecece99,
     },
     Case {
         size: "7x9",
@@ -292,6 +320,7 @@ pub const CASES: [Case; 53] = [
         paints: 6,
         bytes: 1471,
         digest: 0xf99b8a79cf74ca5c,
+        frames: 0x151d4a05cbe28cc4,
     },
     Case {
         size: "7x9",
@@ -302,6 +331,7 @@ pub const CASES: [Case; 53] = [
         paints: 6,
         bytes: 1941,
         digest: 0xa0633faf84cbaa21,
+        frames: 0x151d4a05cbe28cc4,
     },
     Case {
         size: "7x9",
@@ -312,6 +342,7 @@ pub const CASES: [Case; 53] = [
         paints: 6,
         bytes: 1148,
         digest: 0xf8f70d5d6ad8dfb1,
+        frames: 0x151d4a05cbe28cc4,
     },
     Case {
         size: "7x9",
@@ -322,6 +353,7 @@ pub const CASES: [Case; 53] = [
         paints: 6,
         bytes: 1692,
         digest: 0x580db61f06f9e240,
+        frames: 0x151d4a05cbe28cc4,
     },
     Case {
         size: "31x33",
@@ -332,6 +364,7 @@ pub const CASES: [Case; 53] = [
         paints: 6,
         bytes: 6281,
         digest: 0x6b312b468cf78f6c,
+        frames: 0x3d9aa9bd46096854,
     },
     Case {
         size: "31x33",
@@ -342,6 +375,7 @@ pub const CASES: [Case; 53] = [
         paints: 6,
         bytes: 2424,
         digest: 0x0e2a827623e9be43,
+        frames: 0x3d9aa9bd46096854,
     },
     Case {
         size: "31x33",
@@ -352,6 +386,7 @@ pub const CASES: [Case; 53] = [
         paints: 6,
         bytes: 1733,
         digest: 0xc25428e5ff327a20,
+        frames: 0x3d9aa9bd46096854,
     },
     Case {
         size: "31x33",
@@ -362,6 +397,7 @@ pub const CASES: [Case; 53] = [
         paints: 6,
         bytes: 3131,
         digest: 0x02b64feb5cf8e3dc,
+        frames: 0x3d9aa9bd46096854,
     },
     Case {
         size: "65x40",
@@ -372,6 +408,7 @@ pub const CASES: [Case; 53] = [
         paints: 7,
         bytes: 2415,
         digest: 0x6331baebe4e5fe9d,
+        frames: 0xf553ac245dcc051a,
     },
     Case {
         size: "65x40",
@@ -382,6 +419,7 @@ pub const CASES: [Case; 53] = [
         paints: 6,
         bytes: 1498,
         digest: 0x21635a79c80a3465,
+        frames: 0xef230fbcc5706623,
     },
     Case {
         size: "4096x8",
@@ -392,6 +430,7 @@ pub const CASES: [Case; 53] = [
         paints: 5,
         bytes: 100812,
         digest: 0x3db1d84cc8dc4d00,
+        frames: 0x6980282c4a2d1427,
     },
     Case {
         size: "4096x8",
@@ -402,6 +441,7 @@ pub const CASES: [Case; 53] = [
         paints: 5,
         bytes: 2088,
         digest: 0xb752ce5b1101a6c4,
+        frames: 0x6980282c4a2d1427,
     },
     Case {
         size: "4096x8",
@@ -412,6 +452,7 @@ pub const CASES: [Case; 53] = [
         paints: 5,
         bytes: 843,
         digest: 0x2f73a78846cd1671,
+        frames: 0x6980282c4a2d1427,
     },
     Case {
         size: "8x4096",
@@ -422,6 +463,7 @@ pub const CASES: [Case; 53] = [
         paints: 5,
         bytes: 103344,
         digest: 0xcedfa18bc87a92ef,
+        frames: 0xf2ad1358d5b49e34,
     },
     Case {
         size: "8x4096",
@@ -432,6 +474,7 @@ pub const CASES: [Case; 53] = [
         paints: 5,
         bytes: 5903,
         digest: 0x14d76610c6a97b8e,
+        frames: 0xf2ad1358d5b49e34,
     },
     Case {
         size: "8x4096",
@@ -442,6 +485,7 @@ pub const CASES: [Case; 53] = [
         paints: 5,
         bytes: 3884,
         digest: 0xa406c7bc31e78b7a,
+        frames: 0xf2ad1358d5b49e34,
     },
     Case {
         size: "1920x1080",
@@ -452,6 +496,7 @@ pub const CASES: [Case; 53] = [
         paints: 6,
         bytes: 2511,
         digest: 0xe3badf97201690b9,
+        frames: 0xf8aa7c9e16c5dbce,
     },
     Case {
         size: "64x32",
@@ -462,6 +507,7 @@ pub const CASES: [Case; 53] = [
         paints: 0,
         bytes: 9302,
         digest: 0xc4534560ec3db858,
+        frames: 0x61b67c0cfd40face,
     },
     Case {
         size: "16x8",
@@ -472,6 +518,7 @@ pub const CASES: [Case; 53] = [
         paints: 3,
         bytes: 323,
         digest: 0x26fe0adb8da5feff,
+        frames: 0x014eb65621b5b9fd,
     },
     Case {
         size: "32x32",
@@ -482,6 +529,7 @@ pub const CASES: [Case; 53] = [
         paints: 2,
         bytes: 3158,
         digest: 0x782bbc50519cee05,
+        frames: 0xb6de8bd3e473f635,
     },
     Case {
         size: "32x32",
@@ -492,6 +540,7 @@ pub const CASES: [Case; 53] = [
         paints: 3,
         bytes: 4690,
         digest: 0x6217a1d52c316cfc,
+        frames: 0xd9fcb114c9e9537a,
     },
     Case {
         size: "32x32",
@@ -502,6 +551,7 @@ pub const CASES: [Case; 53] = [
         paints: 2,
         bytes: 4690,
         digest: 0x6217a1d52c316cfc,
+        frames: 0xd9fcb114c9e9537a,
     },
     Case {
         size: "32x32",
@@ -512,6 +562,7 @@ pub const CASES: [Case; 53] = [
         paints: 2,
         bytes: 4685,
         digest: 0x699e30b74fb5091a,
+        frames: 0x6b0bd3172a62701f,
     },
     Case {
         size: "32x32",
@@ -522,6 +573,7 @@ pub const CASES: [Case; 53] = [
         paints: 2,
         bytes: 4685,
         digest: 0x699e30b74fb5091a,
+        frames: 0x6b0bd3172a62701f,
     },
     Case {
         size: "70x40",
@@ -532,6 +584,7 @@ pub const CASES: [Case; 53] = [
         paints: 7,
         bytes: 941,
         digest: 0x196db02309a17b19,
+        frames: 0x35016555482073f6,
     },
     Case {
         size: "32x32",
@@ -542,5 +595,6 @@ pub const CASES: [Case; 53] = [
         paints: 0,
         bytes: 74,
         digest: 0xd05d3053cc8d87ea,
+        frames: 0xcbf29ce484222325,
     },
 ];

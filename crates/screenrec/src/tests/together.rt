@@ -179,7 +179,12 @@ fn add_line(merged: &mut Script, script: &Script, index: u32) -> Result<(), Fail
 
 // The text of one script of the lines in the order in which they were accepted: those of clients 0, 2, .. are the first file's, and those of
 // clients 1, 3, .. the second one's.
-fn merged(alloc: Global, first: &[u8], second: &[u8], order: &[Entry]) -> Result<Vec<u8>, Fail> {
+pub(super) fn merged(
+    alloc: Global,
+    first: &[u8],
+    second: &[u8],
+    order: &[Entry],
+) -> Result<Vec<u8>, Fail> {
     if first.len().max(second.len()) > 1000 {
         return Err(Fail::from("too long"));
     }

@@ -6,11 +6,12 @@ use Rattle.edges.specs.Sunk.{is_made}
 use Rattle.recorder.specs.Sessions.{IsOrder}
 use Rattle.screenrec.specs.Served.{record_view}
 use Rattle.screenrec.specs.Together.{ReportsOrder}
+use Rattle.screenrec.proofs.AloneLaws.{wide_enough}
 use Rattle.screenrec.proofs.TogetherLaws.{few_in_all, short_order, played_if_ok, recorded_files}
 use Rattle.screenrec.proofs.together.record_scripts.Goals as goal
 
-pub new-requires-clause-few : goal.new-requires-clause-few
-new-requires-clause-few g c = few_in_all c.args.scripts c.requires.few
+pub open_session-requires-clause-few : goal.open_session-requires-clause-few
+open_session-requires-clause-few g c = few_in_all c.args.scripts c.requires.few
 
 pub record_into-recording-requires-clause-there : goal.record_into-recording-requires-clause-there
 record_into-recording-requires-clause-there g c κs within =
@@ -36,6 +37,6 @@ returns-clause-files g c =
     recorded_files (record_view c.args.words.now) c.args.scripts c.record_into-recording.result.order.items c.finish.result.order c.finish.result.written
     c.in-Ok.session.settings c.in-Ok.session.scripts (g.F.Shelf.files c.args.shelf.now) (g.F.Shelf.files c.create.new.self) (g.F.Shelf.files c.record_into-recording.new.shelf)
     c.record_into-recording.result.lost c.record_into-recording.result.end c.finish.result.status
-    c.in-Ok.ensures.settings c.in-Ok.ensures.scripts (c.w-width.ensures.within, refl) c.requires.spellable
+    c.in-Ok.ensures.settings c.in-Ok.ensures.scripts (c.w-width.ensures.within, wide_enough c.args.words.now.settings.extra c.args.words.now.settings.size.w c.requires.within.0.extra) c.requires.spellable
     c.finish.ensures.order c.finish.ensures.written c.record_into-recording.ensures.order c.finish.ensures.status
     c.in_default-create.ensures.files c.record_into-recording.ensures.files

@@ -1,40 +1,23 @@
-use Rattle.std.proofs.Common.{◌≡◌, ℕ, List, Bool, ◌+◌, [], ◌∷◌, ◌++◌, sym, ◌∙◌, ap, subst, length-append, arith}
+use Rattle.std.proofs.Common.{sym, ◌∙◌, ap, subst}
 use Rattle.std.specs.Arc.{arc_value}
-use Rattle.h265_model.specs.Tiles.{tile_count}
-use Rattle.h265_model.specs.Raster.{black_raster}
-use Rattle.px_plane.specs.Planes.{Planes, Shows}
-use Rattle.picture_encoder.specs.Coded.{Coded, IsLaid, StandsFor}
-use Rattle.picture_encoder.specs.Planning.{AreFlagged, IsKept, piece_of}
-use Rattle.picture_encoder.proofs.Again.{kept_flags}
-use Rattle.picture_encoder.proofs.Following.{last_append, one_more}
+use Rattle.picture_encoder.specs.Coded.{Coded, IsLaid}
+use Rattle.picture_encoder.specs.Planning.{piece_of}
+use Rattle.picture_encoder.proofs.Following.{stands_after, piece_after, slices_are}
 use Rattle.picture_encoder.proofs.encoder.Encoder.next.Goals as goal
 
-pub piece-requires-clause-kept : goal.piece-requires-clause-kept
-piece-requires-clause-kept g c =
-    let sized : c.self.inside.size ≡ c.args.self.now.last.size = ap (λ (e : Coded). e.settings.size) c.self.view_is ∙ (sym c.in_ok-now.ensures.size ∙ c.in_ok-now.ensures.laid.size) in
-    let listed : AreFlagged c.in_ok-touched.touched.items c.args.job.now.tiles = subst (λ (l : List ℕ). AreFlagged c.in_ok-touched.touched.items l) c.as_slice.ensures c.in_ok-touched.ensures.listed in
-    subst (λ (l : List Bool). IsKept l c.picture_after.new.self.last (arc_value c.in_ok-now.now)) (sym c.deref-3.ensures.value)
-    (subst (λ (e : Coded). IsKept c.in_ok-touched.touched.items e.last (arc_value c.in_ok-now.now)) (sym c.in_ok-now.ensures.same)
-    (kept_flags c.in_ok-touched.touched.items c.args.job.now.tiles c.args.self.now.last (arc_value c.in_ok-now.now) (tile_count c.self.inside.size) c.in_ok-touched.ensures.long (ap tile_count sized) listed
-    c.in_ok-now.ensures.kept))
-
-pub after_slice-requires : goal.after_slice-requires
-after_slice-requires g c =
-    subst (λ (p : Planes). IsLaid c.picture_after.new.self.last c.args.job.now p) (sym c.deref-2.ensures)
-    (subst (λ (e : Coded). IsLaid e.last c.args.job.now (arc_value c.in_ok-now.now)) (sym c.in_ok-now.ensures.same) c.in_ok-now.ensures.laid)
-
-pub keep-requires-clause-laid : goal.keep-requires-clause-laid
-keep-requires-clause-laid g c = subst (λ (e : Coded). IsLaid e.last c.args.job.now (arc_value c.in_ok-now.now)) (sym c.in_ok-now.ensures.same) c.in_ok-now.ensures.laid
+pub finish-requires-clause-laid : goal.finish-requires-clause-laid
+finish-requires-clause-laid g c = subst (λ (e : Coded). IsLaid e.last c.args.job.now (arc_value c.in_ok-begun.begun.now)) (sym c.in_ok-begun.ensures.same) c.in_ok-begun.ensures.laid
 
 pub returns-clause-coded : goal.returns-clause-coded
 returns-clause-coded g c = λ before now stands turns.
-    let kept = c.keep.ensures ∙ ap (λ (e : Coded). record e { count = e.count + 1; last = arc_value c.in_ok-now.now }) c.in_ok-now.ensures.same in
-    subst (λ (e : Coded). StandsFor e (before ++ now ∷ [])) (sym kept) record {
-      count = (let known = stands.count in omega (arith, length-append before (now ∷ [])));
-      last = subst (Shows (arc_value c.in_ok-now.now)) (sym (last_append (black_raster c.args.self.now.settings.size) before now)) (c.in_ok-now.ensures.shows now turns);
-    }
+    let picture = arc_value c.in_ok-begun.begun.now in
+    stands_after c.self.inside.history c.args.self.now picture c.args.job.now before now c.self.view_is c.in_ok-begun.ensures.laid c.in_ok-begun.ensures.size c.in_ok-begun.ensures.shows stands turns
+    c.begin.new.self c.finish.new.self c.in_ok-begun.ensures.same c.in_ok-piece.ensures.coded
 
 pub returns-clause-piece : goal.returns-clause-piece
 returns-clause-piece g c = λ before now stands turns.
-    one_more c.self.inside.hashed c.args.self.now (arc_value c.in_ok-now.now) before now c.in_ok-piece.piece.items (ap (λ (e : Coded). e.settings.extra) c.self.view_is) (sym c.in_ok-now.ensures.laid.size) c.in_ok-now.ensures.size stands (c.in_ok-now.ensures.shows now turns)
-    (c.in_ok-piece.ensures.piece ∙ ap (λ (e : Coded). piece_of e (arc_value c.in_ok-now.now)) c.in_ok-now.ensures.same)
+    let picture = arc_value c.in_ok-begun.begun.now in
+    piece_after c.self.inside.history c.args.self.now picture c.args.job.now before now c.self.view_is c.in_ok-begun.ensures.laid c.in_ok-begun.ensures.size c.in_ok-begun.ensures.shows stands turns
+    c.in_ok-piece.piece.items
+    (λ shows. c.in_ok-piece.ensures.piece ∙ (ap (λ (e : Coded). piece_of e picture) c.in_ok-begun.ensures.same
+    ∙ slices_are c.self.inside.history picture now c.self.invariant.slices c.in_ok-begun.ensures.size shows))

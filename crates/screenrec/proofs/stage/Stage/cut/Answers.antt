@@ -3,14 +3,14 @@ use Rattle.recorder_model.specs.Painting.{raster, rasters_after}
 use Rattle.screenrec.proofs.StageLaws.{job_fits, job_numbered, counted_so, job_leads, played_cut, piece_is}
 use Rattle.screenrec.proofs.stage.Stage.cut.Goals as goal
 
-pub next_alone-requires-clause-job : goal.next_alone-requires-clause-job
-next_alone-requires-clause-job c = job_fits c.args.self.now c.in_ok-job.job c.requires.played c.in_ok-job.ensures.job
+pub next-requires-clause-job : goal.next-requires-clause-job
+next-requires-clause-job c = job_fits c.args.self.now c.in_ok-job.job c.requires.played c.in_ok-job.ensures.job
 
-pub next_alone-requires-clause-number : goal.next_alone-requires-clause-number
-next_alone-requires-clause-number c = job_numbered c.args.self.now c.in_ok-job.job c.requires.played c.in_ok-job.ensures.job
+pub next-requires-clause-number : goal.next-requires-clause-number
+next-requires-clause-number c = job_numbered c.args.self.now c.in_ok-job.job c.requires.played c.in_ok-job.ensures.job
 
-pub next_alone-requires-clause-few : goal.next_alone-requires-clause-few
-next_alone-requires-clause-few c = subst (λ (n : ℕ). n < 2 ^ 32 - 1) (sym (counted_so c.args.self.now c.requires.played)) c.requires.few
+pub next-requires-clause-few : goal.next-requires-clause-few
+next-requires-clause-few c = subst (λ (n : ℕ). n < 2 ^ 32 - 1) (sym (counted_so c.args.self.now c.requires.played)) c.requires.few
 
 pub returns-clause-played : goal.returns-clause-played
 returns-clause-played c = λ settings done is.

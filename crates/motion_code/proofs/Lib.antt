@@ -1,0 +1,6 @@
+mod Flat
+mod Kept
+mod MoveSteps
+mod MoveWalks
+mod PartLaws
+mod Shorts

@@ -1,0 +1,4 @@
+pub mod Costs
+pub mod Planned
+pub mod Still
+pub mod Lawful

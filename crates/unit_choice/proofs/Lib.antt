@@ -1,0 +1,3 @@
+pub mod Plans
+pub mod Stills
+pub mod Winners
