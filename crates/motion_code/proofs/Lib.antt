@@ -1,6 +1,6 @@
 mod Flat
 mod Kept
 mod MoveSteps
-mod MoveWalks
+pub mod MoveWalks
 mod PartLaws
 mod Shorts

@@ -299,7 +299,7 @@ module _ (prev now : Picture) (size : Size) (effort : ℕ) where
       let first : List MoveLeaf = moved_choice prev now size effort before ctu in
       stand-append size before first (joined (moved_choices prev now size effort n (coded_after before first) (suc ctu))) (choice_fair before ctu).stand (chosen_stand n (coded_after before first) (suc ctu))
 
-  chosen_here : (total ctu : ℕ) → ctu < total
+  pub chosen_here : (total ctu : ℕ) → ctu < total
       → get_or (moved_choices prev now size effort total [] 0) ctu [] ≡ moved_choice prev now size effort (coded_first (moved_choices prev now size effort total [] 0) ctu) ctu
   chosen_here total ctu h = let e : 0 + ctu ≡ ctu = omega arith in chosen_at total [] 0 ctu h ∙ ap (moved_choice prev now size effort (coded_first (moved_choices prev now size effort total [] 0) ctu)) e
 
