@@ -14,9 +14,11 @@ ghost use Rattle.row_coder.specs.Rows.{plan_of};
 ghost use Rattle.row_core.specs.Plans.{HaveWidth, rows_of};
 ghost use Rattle.picture_encoder.specs.Planning.{IsKept, codes_of, piece_of};
 
+use crate::at_once::plan_picture_by;
 use crate::before::whole;
 use crate::history::{Begun, History};
 use crate::picture::picture_slice;
+use crate::planning::plan_picture;
 use crate::rows::picture_jobs;
 use gate::Gate;
 use h265_model::{Extra, NoMemory};
@@ -141,7 +143,7 @@ impl Encoder {
     }
 
     /// Lays a job over the picture before, codes the picture that it gives, and gives its piece of the stream, as `next_alone` does. The rows of the
-    /// picture are coded by so many workers, of which each may have a thread of its own.
+    /// picture are planned, where much is to be planned, and coded by so many workers, of which each may have a thread of its own.
     ///
     /// `gate` hears of each row that handed on its contexts, and of each that took those of the row above.
     ///
@@ -169,7 +171,7 @@ impl Encoder {
         ensures err { OnErr result (self.new ≡ self.old) }
     {
         let begun = self.history.begin(job)?;
-        let jobs = self.jobs(&begun.now, &begun.touched)?;
+        let jobs = self.jobs_by(rt, &begun.now, &begun.touched, workers)?;
         let rows = run_rows(rt, self.history.alloc(), jobs, workers, gate)?;
         let piece = self.finish(begun, &rows, job)?;
         Ok(piece)
@@ -184,7 +186,30 @@ impl Encoder {
         ensures width { IfOk result (λ jobs. HaveWidth (ctus (arc_value now.now).size.w) (map plan_of jobs.items)) }
         ensures give { IfOk result (λ jobs. rows_of (ctus (arc_value now.now).size.w) (map plan_of jobs.items) ≡ codes_of self.now (arc_value now.now)) }
     {
-        picture_jobs(self.history.alloc(), &self.history.task(now, touched))
+        let task = self.history.task(now, touched);
+        let plans = plan_picture(self.history.alloc(), &task)?;
+        picture_jobs(self.history.alloc(), &task, plans)
+    }
+
+    // The same, planned by so many workers.
+    fn jobs_by<R: Threads + Sync>(
+        &self,
+        rt: &R,
+        now: &Arc<Picture, Global>,
+        touched: &[bool],
+        workers: u32,
+    ) -> Result<Vec<CtuRow>, NoMemory>
+        requires kept { IsKept touched.now self.now.last (arc_value now.now) }
+        requires workers { 1 ≤ workers }
+        ensures some { IfOk result (λ jobs. 0 < length jobs.items) }
+        ensures few { IfOk result (λ jobs. length jobs.items ≤ 128) }
+        ensures fresh { IfOk result (λ jobs. All (λ job. job.begun ≡ false) jobs.items) }
+        ensures width { IfOk result (λ jobs. HaveWidth (ctus (arc_value now.now).size.w) (map plan_of jobs.items)) }
+        ensures give { IfOk result (λ jobs. rows_of (ctus (arc_value now.now).size.w) (map plan_of jobs.items) ≡ codes_of self.now (arc_value now.now)) }
+    {
+        let task = self.history.task(now, touched);
+        let plans = plan_picture_by(rt, self.history.alloc(), &task, workers)?;
+        picture_jobs(self.history.alloc(), &task, plans)
     }
 
     // Whether the hash of each picture stands after its slice.

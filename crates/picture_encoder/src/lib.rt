@@ -3,6 +3,7 @@
 
 ghost use Rattle.picture_encoder.specs.Laws.{EachPictureFollows};
 
+mod at_once;
 mod before;
 mod encoder;
 mod history;

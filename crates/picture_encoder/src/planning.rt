@@ -120,6 +120,33 @@ fn plan_in<L: Ledger>(
     plan_rows(alloc, task, &mut steps)
 }
 
+// Those of a row, with the steps that it takes in a ledger of its own.
+fn plan_row_in<L: Ledger>(
+    alloc: Global,
+    task: &Task,
+    row: u32,
+    blank: Blank,
+) -> Result<Vec<Leaves>, NoMemory>
+    requires task { IsTask task.now }
+    requires row { row < ctus (size_of_task task.now).h }
+    requires name { blank.name ≡ L.name }
+    requires parts { blank.parts ≡ L.parts }
+    requires some { 0 < blank.parts }
+    ensures { IfOk result (λ plans. leaves_of plans.items ≡ row_chosen task.now row) }
+{
+    let mut steps = Steps::<L>::new(blank);
+    plan_row(alloc, task, row, &mut steps)
+}
+
+/// The coding units of a row of coding tree units, from the left.
+pub(crate) fn plan_row_alone(alloc: Global, task: &Task, row: u32) -> Result<Vec<Leaves>, NoMemory>
+    requires task { IsTask task.now }
+    requires row { row < ctus (size_of_task task.now).h }
+    ensures { IfOk result (λ plans. leaves_of plans.items ≡ row_chosen task.now row) }
+{
+    plan_row_in::<Brand>(alloc, task, row, Blank::new(1))
+}
+
 /// The coding units of each coding tree unit, row by row.
 pub(crate) fn plan_picture(alloc: Global, task: &Task) -> Result<Vec<Vec<Leaves>>, NoMemory>
     requires { IsTask task.now }

@@ -10,7 +10,7 @@ ghost use Rattle.row_coder.specs.Rows.{leaves_of, plan_of};
 ghost use Rattle.slice_assembly.specs.Substreams.{IsSubstream};
 ghost use Rattle.picture_encoder.specs.Planning.{IsTask, row_chosen, row_of_task, code_of_task, size_of_task};
 
-use crate::planning::{Task, plan_picture};
+use crate::planning::Task;
 use bin_items::Leaves;
 use h265_model::NoMemory;
 use px_plane::Picture;
@@ -72,9 +72,14 @@ pub fn picture_fits(picture: &Picture)
     bytes_fit(picture.plane(2));
 }
 
-/// The jobs of a picture's rows from the top: none was begun, they have one width, and they give the bytes of the rows.
-pub(crate) fn picture_jobs(alloc: Global, task: &Task) -> Result<Vec<CtuRow>, NoMemory>
-    requires { IsTask task.now }
+/// The jobs of a picture's rows with these coding units, from the top: none was begun, they have one width, and they give the bytes of the rows.
+pub(crate) fn picture_jobs(
+    alloc: Global,
+    task: &Task,
+    plans: Vec<Vec<Leaves>>,
+) -> Result<Vec<CtuRow>, NoMemory>
+    requires task { IsTask task.now }
+    requires plans { map (λ row. leaves_of row.items) plans.items ≡ map (row_chosen task.now) (below (ctus (size_of_task task.now).h)) }
     ensures some { IfOk result (λ jobs. 0 < length jobs.items) }
     ensures few { IfOk result (λ jobs. length jobs.items ≤ 128) }
     ensures fresh { IfOk result (λ jobs. All (λ job. job.begun ≡ false) jobs.items) }
@@ -82,7 +87,7 @@ pub(crate) fn picture_jobs(alloc: Global, task: &Task) -> Result<Vec<CtuRow>, No
     ensures give { IfOk result (λ jobs. rows_of (ctus (size_of_task task.now).w) (map plan_of jobs.items) ≡ map (code_of_task task.now) (below (ctus (size_of_task task.now).h))) }
 {
     picture_fits(task.current);
-    let jobs = row_jobs(alloc, task, plan_picture(alloc, task)?)?;
+    let jobs = row_jobs(alloc, task, plans)?;
     Ok(jobs)
 }
 
