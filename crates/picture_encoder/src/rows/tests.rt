@@ -5,7 +5,8 @@ ghost use Rattle.h265_model.specs.Tiles.{tile_count};
 ghost use Rattle.picture_encoder.specs.Planning.{IsTask};
 
 use super::picture_jobs;
-use crate::planning::Task;
+use crate::at_once::plan_picture_by;
+use crate::planning::{Task, plan_picture};
 use gate::NoGate;
 use px_plane::{Picture, Size};
 use row_workers::{rows_alone, run_rows};
@@ -40,14 +41,17 @@ fn workers_give_the_rows_of_one_thread(rt: HostRuntime) -> Result<(), Fail> {
     let touched = vec![in alloc; true; ((size.w() + 31) / 32 * ((size.h() + 31) / 32)) as usize]?;
     let picture = Arc::new(alloc, Picture::black(alloc, size)?)?;
     let task = task_of(&picture, &touched);
-    let alone = rows_alone(alloc, picture_jobs(alloc, &task)?)?;
+    let plans = plan_picture(alloc, &task)?;
+    let alone = rows_alone(alloc, picture_jobs(alloc, &task, plans)?)?;
     assert_eq!(rt; alone.len(), 2);
     for row in &alone {
         assert_eq!(rt; row.len(), 3 * (2 + 3072) + 2);
     }
     for workers in [1u32, 64] {
         assert!(rt; workers >= 1 && workers <= 64);
-        let rows = run_rows(&rt, alloc, picture_jobs(alloc, &task)?, workers, &NoGate)?;
+        let plans = plan_picture_by(&rt, alloc, &task, workers)?;
+        let jobs = picture_jobs(alloc, &task, plans)?;
+        let rows = run_rows(&rt, alloc, jobs, workers, &NoGate)?;
         assert!(rt; rows == alone);
     }
     Ok(())
