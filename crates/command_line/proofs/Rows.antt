@@ -2,7 +2,7 @@
 use Rattle.std.proofs.Common.{◌≡◌, ℕ, true, false, List, [], ◌∷◌, length, refl, arith}
 use Rattle.std.specs.Prelude.{Option, None, bytes_eq, codes}
 use Rattle.std.specs.Borrow.{Bor}
-use Rattle.h265_model.specs.declared.extra.Extra.TheVariants.{Plain, Hash, Segments}
+use Rattle.h265_model.specs.declared.extra.Extra.TheVariants.{Plain}
 use Rattle.command_line.specs.Words.{Row, row_of, record_words, serial_words, demo_words, decode_words, hash_words, segments_words, moves_words}
 use Rattle.command_line.specs.Views.{texts}
 

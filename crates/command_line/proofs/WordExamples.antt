@@ -1,5 +1,5 @@
 -- Words and their rows, computed.
-use Rattle.std.specs.Prelude.{◌≡◌, List, [], ◌∷◌, codes, Some, None, refl}
+use Rattle.std.specs.Prelude.{◌≡◌, [], ◌∷◌, codes, Some, None, refl}
 use Rattle.h265_model.specs.declared.extra.Extra.TheVariants.{Hash, Segments, Moves}
 use Rattle.h265_model.specs.Settings.{plain}
 use Rattle.recorder_model.specs.Script.{number_up_to}

@@ -9,6 +9,7 @@ use std::process::Abort;
 use std::test::Fail;
 
 // A script and the words before those of its files, what its recording reports, and the digest of its stream.
+#[derive(Drop)]
 pub(super) struct Extra<'a> {
     pub(super) words: [&'static str; 5],
     pub(super) script: &'a str,

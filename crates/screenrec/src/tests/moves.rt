@@ -127,9 +127,10 @@ fn script_of(alloc: Global, case: &Noisy) -> Result<String, Fail> {
 #[test]
 fn squares_that_move(rt: HostRuntime) -> Result<(), Fail> {
     for case in &NOISY {
+        let script = script_of(rt.alloc(), case)?;
         let extra = Extra {
             words: ["moves", "serial", case.size, "0", "0"],
-            script: &script_of(rt.alloc(), case)?,
+            script: &script,
             pictures: case.pictures,
             paints: case.paints,
             bytes: case.bytes,
