@@ -112,10 +112,7 @@ fn frames_of(alloc: Global, shelf: &mut CalmShelf) -> Result<Vec<u8>, Fail> {
 }
 
 // Records the script, and compares what comes of it. Its frames are those of the script's plain stream.
-pub(super) fn record(
-    rt: &(impl Abort + AllocGlobal),
-    case: &Extra<'_>,
-) -> Result<(), Fail> {
+pub(super) fn record(rt: &(impl Abort + AllocGlobal), case: &Extra<'_>) -> Result<(), Fail> {
     let alloc = rt.alloc();
     let mut shelf = CalmShelf::new(alloc)?;
     shelf.put("f", case.script.as_bytes())?;

@@ -61,7 +61,8 @@ const NOISY: [Noisy; 4] = [
 ];
 
 // The left window scrolls up by 9 rows, and the right one down by 5.
-const WINDOWS: &str = "paint 2\nfill 0 0 128 96 304050\nfill 4 8 56 80 f8f8f0\nfill 68 8 56 80 f8f8f0\n\
+const WINDOWS: &str =
+    "paint 2\nfill 0 0 128 96 304050\nfill 4 8 56 80 f8f8f0\nfill 68 8 56 80 f8f8f0\n\
     fill 8 12 40 3 202020\nfill 8 21 29 3 202020\nfill 8 30 47 3 202020\nfill 8 48 33 3 202020\n\
     fill 72 12 18 3 202020\nfill 72 31 44 3 202020\nfill 72 40 37 3 202020\nfill 72 59 25 3 202020\ncut\n\
     copy 4 17 56 71 4 8\nfill 4 79 56 9 f8f8f0\nfill 8 82 21 3 c02020\n\
@@ -70,7 +71,8 @@ const WINDOWS: &str = "paint 2\nfill 0 0 128 96 304050\nfill 4 8 56 80 f8f8f0\nf
     copy 68 8 56 75 68 13\nfill 68 8 56 5 f8f8f0\nfill 72 9 23 2 2020c0\ncut\n";
 
 // A picture that moves to the right and up, with letters of two colours, and a part of it to the left. The third picture is an IDR picture.
-const SIDEWAYS: &str = "paint 2\nfill 0 0 70 50 e0e0d0\nfill 5 6 40 3 102030\nfill 9 17 3 30 802010\n\
+const SIDEWAYS: &str =
+    "paint 2\nfill 0 0 70 50 e0e0d0\nfill 5 6 40 3 102030\nfill 9 17 3 30 802010\n\
     fill 30 11 21 2 102030\nfill 50 20 4 19 208010\nfill 21 40 35 3 102030\ncut\n\
     copy 0 0 70 50 3 0\ncut\ncopy 0 5 70 45 0 0\ncut\ncopy 0 0 70 50 0 1\ncopy 33 0 30 50 32 0\ncut\n";
 
