@@ -70,7 +70,8 @@ const WINDOWS: &str =
     copy 4 17 56 71 4 8\nfill 4 79 56 9 f8f8f0\nfill 8 82 32 3 c02020\n\
     copy 68 8 56 75 68 13\nfill 68 8 56 5 f8f8f0\nfill 72 9 23 2 2020c0\ncut\n";
 
-// A picture that moves to the right and up, with letters of two colours, and a part of it to the left. The third picture is an IDR picture.
+// A picture that moves to the right, up, and then down with a part of it that moves to the left. The third one is an
+// IDR picture.
 const SIDEWAYS: &str =
     "paint 2\nfill 0 0 70 50 e0e0d0\nfill 5 6 40 3 102030\nfill 9 17 3 30 802010\n\
     fill 30 11 21 2 102030\nfill 50 20 4 19 208010\nfill 21 40 35 3 102030\ncut\n\
