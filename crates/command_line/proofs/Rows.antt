@@ -2,8 +2,8 @@
 use Rattle.std.proofs.Common.{◌≡◌, ℕ, true, false, List, [], ◌∷◌, length, refl, arith}
 use Rattle.std.specs.Prelude.{Option, None, bytes_eq, codes}
 use Rattle.std.specs.Borrow.{Bor}
-use Rattle.h265_model.specs.declared.extra.Extra.TheVariants.{Plain, Hash, Segments}
-use Rattle.command_line.specs.Words.{Row, row_of, record_words, serial_words, demo_words, decode_words, hash_words, segments_words}
+use Rattle.h265_model.specs.declared.extra.Extra.TheVariants.{Plain}
+use Rattle.command_line.specs.Words.{Row, row_of, record_words, serial_words, demo_words, decode_words, hash_words, segments_words, moves_words}
 use Rattle.command_line.specs.Views.{texts}
 
 pub no_words : (all : List (Bor (List ℕ))) → length all ≡ 0 → None ≡ row_of (texts all)
@@ -46,7 +46,12 @@ module _ (all words : List (Bor (List ℕ))) (command : Bor (List ℕ)) (e : all
   unfolding row_of
   of_segments row first second third fourth fifth sixth r = rw (e, first, second, third, fourth, fifth, sixth) r
 
-  pub of_none : IsNot (codes "record") → IsNot (codes "serial") → IsNot (codes "demo") → IsNot (codes "decode") → IsNot (codes "hash") → IsNot (codes "segments") →
-      None ≡ row_of (texts all)
+  pub of_moves : (row : Option Row) → IsNot (codes "record") → IsNot (codes "serial") → IsNot (codes "demo") → IsNot (codes "decode") → IsNot (codes "hash") →
+      IsNot (codes "segments") → Is (codes "moves") → row ≡ moves_words (texts words) → row ≡ row_of (texts all)
   unfolding row_of
-  of_none first second third fourth fifth sixth = rw (e, first, second, third, fourth, fifth, sixth) refl
+  of_moves row first second third fourth fifth sixth seventh r = rw (e, first, second, third, fourth, fifth, sixth, seventh) r
+
+  pub of_none : IsNot (codes "record") → IsNot (codes "serial") → IsNot (codes "demo") → IsNot (codes "decode") → IsNot (codes "hash") → IsNot (codes "segments") →
+      IsNot (codes "moves") → None ≡ row_of (texts all)
+  unfolding row_of
+  of_none first second third fourth fifth sixth seventh = rw (e, first, second, third, fourth, fifth, sixth, seventh) refl

@@ -1,6 +1,6 @@
 -- Words and their rows, computed.
-use Rattle.std.specs.Prelude.{◌≡◌, List, [], ◌∷◌, codes, Some, None, refl}
-use Rattle.h265_model.specs.declared.extra.Extra.TheVariants.{Hash, Segments}
+use Rattle.std.specs.Prelude.{◌≡◌, [], ◌∷◌, codes, Some, None, refl}
+use Rattle.h265_model.specs.declared.extra.Extra.TheVariants.{Hash, Segments, Moves}
 use Rattle.h265_model.specs.Settings.{plain}
 use Rattle.recorder_model.specs.Script.{number_up_to}
 use Rattle.command_line.specs.Words.{Record, Serial, Demo, row_of, settings_words}
@@ -93,3 +93,15 @@ segments_of_clients = refl
 segments_alone : row_of (codes "segments" ∷ []) ≡ None
 unfolding row_of settings_words number_up_to
 segments_alone = refl
+
+serial_with_moves : row_of (codes "moves" ∷ codes "serial" ∷ codes "32x64" ∷ codes "0" ∷ codes "1" ∷ codes "o" ∷ codes "f" ∷ []) ≡ Some (Serial (record { settings = record { size = record { w = 32; h = 64 }; effort = 0; key = 1; extra = Moves }; out = codes "o"; file = codes "f" }))
+unfolding row_of settings_words number_up_to
+serial_with_moves = refl
+
+moves_of_clients : row_of (codes "moves" ∷ codes "record" ∷ codes "64x64" ∷ codes "1" ∷ codes "0" ∷ codes "1" ∷ codes "o" ∷ codes "f" ∷ []) ≡ None
+unfolding row_of settings_words number_up_to
+moves_of_clients = refl
+
+moves_alone : row_of (codes "moves" ∷ []) ≡ None
+unfolding row_of settings_words number_up_to
+moves_alone = refl

@@ -28,7 +28,7 @@ abbrev pub IsOfScript : Extra → ℕ → Type 0
 IsOfScript Plain w = Unit {0}
 IsOfScript Hash w = Unit {0}
 IsOfScript Segments w = 32 < w
-IsOfScript Moves w = ⊥
+IsOfScript Moves w = Unit {0}
 
 -- and where those of several clients are recorded together
 abbrev pub IsOfClients : Extra → Type 0

@@ -1,8 +1,8 @@
 -- The words of the command line, as rows of the program's table.
-use Rattle.std.specs.Prelude.{ℕ, ◌*◌, Bool, ◌&&◌, ◌||◌, not, List, [], ◌∷◌, length, Option, Some, None, ◌==◌, nat_le, nat_lt, codes, bytes_eq, if◌then◌else◌}
+use Rattle.std.specs.Prelude.{ℕ, Bool, ◌&&◌, ◌||◌, not, List, [], ◌∷◌, length, Option, Some, None, ◌==◌, nat_le, nat_lt, codes, bytes_eq, if◌then◌else◌}
 use Rattle.std.specs.List.{slice_split}
 use Rattle.h265_model.specs.declared.extra.Extra.{Extra}
-use Rattle.h265_model.specs.declared.extra.Extra.TheVariants.{Plain, Hash, Segments}
+use Rattle.h265_model.specs.declared.extra.Extra.TheVariants.{Plain, Hash, Segments, Moves}
 use Rattle.h265_model.specs.Bits.{◌>>=◌}
 use Rattle.h265_model.specs.Plain.{Size}
 use Rattle.h265_model.specs.Settings.{Settings, most_side, is_size, has_segments}
@@ -88,6 +88,11 @@ abbrev pub segments_words : List (List ℕ) → Option Row
 segments_words [] = None
 segments_words (command ∷ words) = if bytes_eq command (codes "serial") then serial_words Segments words else None
 
+-- what follows `moves`: a recording in which blocks may be copied from other places of the picture before
+abbrev pub moves_words : List (List ℕ) → Option Row
+moves_words [] = None
+moves_words (command ∷ words) = if bytes_eq command (codes "serial") then serial_words Moves words else None
+
 abbrev pub demo_words : List (List ℕ) → Option Row
 demo_words (number ∷ []) = do
   number ← number_up_to 18446744073709551615 number
@@ -108,4 +113,5 @@ row_of (command ∷ words) =
     else if bytes_eq command (codes "decode") then decode_words words
     else if bytes_eq command (codes "hash") then hash_words words
     else if bytes_eq command (codes "segments") then segments_words words
+    else if bytes_eq command (codes "moves") then moves_words words
     else None

@@ -1,7 +1,6 @@
 //! The row of the table that words are in.
-ghost use Rattle.std.specs.Prelude.{◌≡◌, ◌≢◌, option_map, true};
+ghost use Rattle.std.specs.Prelude.{◌≡◌, option_map, true};
 ghost use Rattle.std.specs.Option.{IfSome};
-ghost use Rattle.h265_model.specs.declared.extra.Extra.TheVariants.{Moves};
 ghost use Rattle.command_line.specs.Words as table;
 ghost use Rattle.command_line.specs.Views.{texts, settings_view, row_view, IsOfScript, IsOfClients, IsWithinLimits, RowIsWithinLimits};
 
@@ -40,6 +39,8 @@ pub fn read_words<'a>(words: &'a [&'a str]) -> Option<Row<'a>>
         hash_words(words)
     } else if *command == "segments" {
         segments_words(words)
+    } else if *command == "moves" {
+        moves_words(words)
     } else {
         None
     }
@@ -73,9 +74,21 @@ fn segments_words<'a>(words: &'a [&'a str]) -> Option<Row<'a>>
     }
 }
 
+// The words behind `moves`.
+fn moves_words<'a>(words: &'a [&'a str]) -> Option<Row<'a>>
+    ensures row { option_map row_view result ≡ table.moves_words (texts words.now) }
+    ensures within { IfSome result RowIsWithinLimits }
+{
+    let (command, words) = words.split_first()?;
+    if *command == "serial" {
+        serial_words(Extra::Moves, words)
+    } else {
+        None
+    }
+}
+
 // Whether pictures of this size can be coded so.
 fn is_wide_enough(extra: Extra, size: Size) -> bool
-    requires { extra ≢ Moves }
     ensures value { result ≡ table.is_wide_enough extra size }
     ensures within { result ≡ true → IsOfScript extra size.w }
 {
@@ -86,7 +99,6 @@ fn is_wide_enough(extra: Extra, size: Size) -> bool
 }
 
 fn settings(extra: Extra, picture: &str, effort: &str, key: &str) -> Option<Settings>
-    requires { extra ≢ Moves }
     ensures value { option_map settings_view result ≡ table.settings_words extra picture.now effort.now key.now }
     ensures within { IfSome result IsWithinLimits }
     ensures extra { IfSome result (λ settings. settings.extra ≡ extra) }
@@ -127,7 +139,6 @@ fn record_words<'a>(extra: Extra, words: &'a [&'a str]) -> Option<Row<'a>>
 }
 
 fn serial_words<'a>(extra: Extra, words: &'a [&'a str]) -> Option<Row<'a>>
-    requires { extra ≢ Moves }
     ensures row { option_map row_view result ≡ table.serial_words extra (texts words.now) }
     ensures within { IfSome result RowIsWithinLimits }
 {

@@ -51,7 +51,7 @@ pub struct DecodeWords<'a> {
 pub enum Row<'a> {
     /// `record SIZE WORKERS EFFORT KEY OUT FILE..`, or these words after `hash`
     Record(RecordWords<'a>),
-    /// `serial SIZE EFFORT KEY OUT FILE`, or these words after `hash` or `segments`
+    /// `serial SIZE EFFORT KEY OUT FILE`, or these words after `hash`, `segments` or `moves`
     Serial(SerialWords<'a>),
     /// `demo NUMBER`
     Demo(u64),

@@ -4,7 +4,7 @@ use std::alloc::{AllocError, Global};
 use std::test::Fail;
 
 // Words that are in no row.
-const REFUSED: [&[&str]; 43] = [
+const REFUSED: [&[&str]; 49] = [
     &[],
     &[""],
     &["help"],
@@ -48,6 +48,12 @@ const REFUSED: [&[&str]; 43] = [
     &["segments", "serial", "32x64", "0", "1", "o", "f"],
     &["segments", "record", "64x64", "1", "0", "1", "o", "f"],
     &["hash", "segments", "serial", "64x64", "0", "1", "o", "f"],
+    &["moves"],
+    &["moves", "record", "64x64", "1", "0", "1", "o", "f"],
+    &["moves", "decode", "i", "o"],
+    &["moves", "moves", "serial", "64x64", "0", "1", "o", "f"],
+    &["segments", "moves", "serial", "64x64", "0", "1", "o", "f"],
+    &["serial", "moves", "64x64", "0", "1", "o", "f"],
 ];
 
 #[test]
@@ -78,6 +84,7 @@ fn words_in_front(rt: HostRuntime) -> Result<(), Fail> {
     let rows = [
         ("hash", "1x1", Extra::Hash),
         ("segments", "33x1", Extra::Segments),
+        ("moves", "1x1", Extra::Moves),
     ];
     for (kind, size, extra) in rows {
         let words = [kind, "serial", size, "1", "2", "o", "f"];

@@ -105,7 +105,7 @@ pub wide_enough : (extra : Extra) (w : ℕ) → IsOfScript extra w → has_segme
 wide_enough Plain w is e = absurd (false≢true e)
 wide_enough Hash w is e = absurd (false≢true e)
 wide_enough Segments w is e = omega (arith, is)
-wide_enough Moves w is e = absurd is
+wide_enough Moves w is e = absurd (false≢true e)
 
 module _ (words : SerialWords) where
   decoded : (script : List Line) → AreWithin words.settings → AreSpellable script →

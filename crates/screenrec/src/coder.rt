@@ -1,6 +1,6 @@
 //! What codes the pictures of a recording.
 ghost use Rattle.std.specs.Prelude.{◌≡◌, ◌≤◌, ◌<◌, ◌+◌, ◌-◌, ◌^◌, ◌++◌, ◌∷◌, [], List, length, IfOk, OnOk, OnErr};
-ghost use Rattle.h265_model.specs.declared.extra.Extra.TheVariants.{Segments};
+ghost use Rattle.h265_model.specs.declared.extra.Extra.TheVariants.{Segments, Moves};
 ghost use Rattle.h265_model.specs.Raster.{Raster};
 ghost use Rattle.h265_model.specs.Stream.{pieces};
 ghost use Rattle.px_plane.specs.Tiles.{IsJobOf};
@@ -10,6 +10,7 @@ ghost use Rattle.picture_encoder.specs.Coded.{StandsFor, TurnsInto};
 use command_line::Settings;
 use h265_model::{Extra, NoMemory};
 use picture_encoder::{Encoder, Job};
+use row_moves::MoveEncoder;
 use row_segments::SegmentEncoder;
 use std::alloc::Global;
 use std::marker::Model;
@@ -45,6 +46,17 @@ fn segments_for(alloc: Global, settings: &Settings) -> Result<SegmentEncoder, No
     SegmentEncoder::new(alloc, settings.size, settings.effort, settings.key)
 }
 
+// An encoder of pictures whose blocks may be copied from other places of the picture before, which has coded none.
+fn moves_for(alloc: Global, settings: &Settings) -> Result<MoveEncoder, NoMemory>
+    requires effort { settings.now.effort ≤ 2 }
+    requires extra { settings.now.extra ≡ Moves }
+    ensures settings { IfOk result (λ encoder. encoder.settings ≡ settings_view settings.now) }
+    ensures sized { IfOk result (λ encoder. encoder.last.size ≡ encoder.settings.size) }
+    ensures fresh { IfOk result (λ encoder. StandsFor encoder []) }
+{
+    MoveEncoder::new(alloc, settings.size, settings.effort, settings.key)
+}
+
 // An encoder by what it makes of a picture.
 #[derive(Drop)]
 enum AnyEncoder {
@@ -52,6 +64,8 @@ enum AnyEncoder {
     Picture(Encoder),
     // a slice segment for each row of coding tree units
     Segment(SegmentEncoder),
+    // one slice, with blocks that may be copied from other places
+    Moved(MoveEncoder),
 }
 
 /// Codes the pictures of a recording on the caller's thread, each after the one before, as its settings want it.
@@ -86,7 +100,7 @@ impl Coder {
         let encoder = match settings.extra {
             Extra::Plain | Extra::Hash => AnyEncoder::Picture(encoder_for(alloc, settings)?),
             Extra::Segments => AnyEncoder::Segment(segments_for(alloc, settings)?),
-            Extra::Moves => unreachable!(),
+            Extra::Moves => AnyEncoder::Moved(moves_for(alloc, settings)?),
         };
         Ok(Coder { encoder })
     }
@@ -103,6 +117,7 @@ impl Coder {
         match &self.encoder {
             AnyEncoder::Picture(encoder) => encoder.first(),
             AnyEncoder::Segment(encoder) => encoder.first(),
+            AnyEncoder::Moved(encoder) => encoder.first(),
         }
     }
 
@@ -127,6 +142,7 @@ impl Coder {
         match &mut self.encoder {
             AnyEncoder::Picture(encoder) => encoder.next_alone(job),
             AnyEncoder::Segment(encoder) => encoder.next_alone(job),
+            AnyEncoder::Moved(encoder) => encoder.next_alone(job),
         }
     }
 }

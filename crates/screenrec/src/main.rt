@@ -52,7 +52,7 @@ fn main(rt: HostRuntime) -> ExitCode {
     let first = words.first().copied().unwrap_or("");
     let second = words.get(1).copied().unwrap_or("");
     let outcome = match (first, second) {
-        ("serial", _) | ("hash" | "segments", "serial") => {
+        ("serial", _) | ("hash" | "segments" | "moves", "serial") => {
             run_serial(alloc, &words, &mut shelf, &mut report)
         }
         ("demo", _) => run_demo(alloc, &words, &mut report),

@@ -12,8 +12,9 @@ use command_line::{Row, read_words};
 use edges::{Shelf, Sink};
 use std::alloc::Global;
 
-/// Serves the words `serial SIZE EFFORT KEY OUT FILE`: replays the paint script FILE on one desktop, and writes its cut
-/// pictures to OUT as a lossless H.265 stream. It answers `Usage` for all other words.
+/// Serves the words `serial SIZE EFFORT KEY OUT FILE`, alone or after `hash`, `segments` or `moves`: replays the paint
+/// script FILE on one desktop, and writes its cut pictures to OUT as a lossless H.265 stream. It answers `Usage` for all
+/// other words.
 pub fn run_serial<F: Shelf, K: Sink>(
     alloc: Global,
     words: &[&str],

@@ -5,6 +5,7 @@ mod demo;
 mod extras;
 mod faults;
 mod large;
+mod moves;
 mod together;
 
 use super::*;

@@ -9,13 +9,14 @@ use std::process::Abort;
 use std::test::Fail;
 
 // A script and the words before those of its files, what its recording reports, and the digest of its stream.
-struct Extra {
-    words: [&'static str; 5],
-    script: &'static str,
-    pictures: u32,
-    paints: u32,
-    bytes: u64,
-    digest: u64,
+#[derive(Drop)]
+pub(super) struct Extra<'a> {
+    pub(super) words: [&'static str; 5],
+    pub(super) script: &'a str,
+    pub(super) pictures: u32,
+    pub(super) paints: u32,
+    pub(super) bytes: u64,
+    pub(super) digest: u64,
 }
 
 // Each third cut finds nothing changed.
@@ -30,7 +31,7 @@ const WIDE: &str =
 const TALL: &str =
     "fill 0 0 70 100 ffffff\nfill 10 10 30 63 203040\ncut\ncut\nfill 40 30 30 70 0000ff\ncut\ncut\n";
 
-const HASHED: [Extra; 4] = [
+const HASHED: [Extra<'static>; 4] = [
     Extra {
         words: ["hash", "serial", "32x32", "0", "1"],
         script: "cut\n",
@@ -65,7 +66,7 @@ const HASHED: [Extra; 4] = [
     },
 ];
 
-const SEGMENTED: [Extra; 4] = [
+const SEGMENTED: [Extra<'static>; 4] = [
     Extra {
         words: ["segments", "serial", "64x64", "0", "1"],
         script: "cut\n",
@@ -111,7 +112,7 @@ fn frames_of(alloc: Global, shelf: &mut CalmShelf) -> Result<Vec<u8>, Fail> {
 }
 
 // Records the script, and compares what comes of it. Its frames are those of the script's plain stream.
-fn record(rt: &(impl Abort + AllocGlobal), case: &Extra) -> Result<(), Fail> {
+pub(super) fn record(rt: &(impl Abort + AllocGlobal), case: &Extra<'_>) -> Result<(), Fail> {
     let alloc = rt.alloc();
     let mut shelf = CalmShelf::new(alloc)?;
     shelf.put("f", case.script.as_bytes())?;
@@ -249,9 +250,12 @@ fn segments_that_are_refused(rt: HostRuntime) -> Result<(), Fail> {
 #[test]
 fn words_of_no_row(rt: HostRuntime) -> Result<(), Fail> {
     let alloc = rt.alloc();
-    let rows: [&[&str]; 5] = [
+    let rows: [&[&str]; 8] = [
         &["segments", "serial", "32x64", "0", "1", "o", "f"],
         &["segments", "record", "64x64", "1", "0", "1", "o", "f"],
+        &["moves", "record", "64x64", "1", "0", "1", "o", "f"],
+        &["moves"],
+        &["serial", "moves", "32x32", "0", "1", "o", "f"],
         &["hash", "decode", "i", "o"],
         &["hash"],
         &["serial", "hash", "32x32", "0", "1", "o", "f"],
