@@ -117,3 +117,6 @@ impl MoveEncoder {
         Ok(piece)
     }
 }
+
+#[cfg(test)]
+mod tests;
