@@ -1,5 +1,5 @@
 //! Which coding units are coded of a coding tree unit.
-ghost use Rattle.std.specs.Prelude.{◌≡◌, ◌<◌, ◌≤◌, map, get_or, length};
+ghost use Rattle.std.specs.Prelude.{◌≡◌, ◌<◌, ◌≤◌, [], map, get_or, length};
 ghost use Rattle.h265_model.specs.Tiles.{tile_count};
 ghost use Rattle.h265_model.specs.Tree.{IsLawfulTree, coded_first};
 ghost use Rattle.h265_model.specs.Motion.{still, still_kind};
