@@ -10,8 +10,8 @@ use px_plane::{Job, Size};
 use std::alloc::Global;
 use std::test::Fail;
 
-// What a tile shows, as it looks so many columns, and so many rows, further on. A tile that goes from one texture to another
-// has moved.
+// What a tile shows, as it looks so many columns, and so many rows, further on. A tile that goes from one texture to
+// another has moved.
 #[derive(Clone, Copy)]
 enum View {
     Bands(u8),
