@@ -1,5 +1,5 @@
 -- The piece of a picture whose blocks may move.
-use Rattle.std.proofs.Common.{◌≡◌, sym, ◌∙◌, ap, subst, ℕ, ◌+◌, ◌*◌, ◌%◌, ◌<◌, ◌≤◌, List, [], ◌∷◌, Bool, length, get_or, map, arith}
+use Rattle.std.proofs.Common.{◌≡◌, sym, ◌∙◌, ap, subst, ℕ, ◌%◌, List, [], Bool, length, get_or, map, arith}
 use Rattle.std.specs.Prelude.{Option}
 use Rattle.std.specs.List.{All}
 use Rattle.std.proofs.lemmas.List.{length-map, get_or-map}
@@ -19,7 +19,7 @@ use Rattle.px_plane.specs.Planes.{Planes, picture_of}
 use Rattle.slice_assembly.specs.Substreams.{IsSubstream}
 use Rattle.picture_encoder.specs.Coded.{Coded}
 use Rattle.picture_encoder.specs.declared.planning.Task.{Task}
-use Rattle.picture_encoder.specs.Planning.{reference_of, reference_of_task, planes_of_task, size_of_task, kind_of_task, is_idr_task, IsTaskOf, units_of}
+use Rattle.picture_encoder.specs.Planning.{reference_of, reference_of_task, planes_of_task, size_of_task, kind_of_task, IsTaskOf, units_of}
 use Rattle.row_moves.specs.Moves.{moved, all_units, code_of_task}
 use Rattle.row_moves.proofs.Units.{same_units, many_units, lawful_units}
 

@@ -1,7 +1,6 @@
 -- The coding units of a picture: those of each coding tree unit, and what holds of all of them.
-use Rattle.std.proofs.Common.{◌≡◌, refl, sym, ◌∙◌, ap, subst, ℕ, ◌+◌, ◌*◌, ◌<◌, List, [], ◌∷◌, Bool, false, length, get_or, map, arith}
+use Rattle.std.proofs.Common.{◌≡◌, refl, sym, ◌∙◌, ap, subst, ℕ, ◌*◌, ◌<◌, List, [], ◌∷◌, false, length, get_or, map, arith}
 use Rattle.std.specs.Prelude.{Option, Some, None, is_none}
-use Rattle.std.specs.List.{range_with_len}
 use Rattle.std.proofs.lemmas.List.{length-map}
 use Rattle.std.proofs.lemmas.List.FromFn.{length-map-range_with_len, get_or-map-range_with_len}
 use Rattle.h265_model.specs.declared.leaf.Kind.{Kind}

@@ -19,7 +19,7 @@ use Rattle.bin_items.proofs.Growing.{grew_as}
 use Rattle.pu_code.specs.Cells.{Cells, IsUnit}
 use Rattle.coding_tree.specs.UnitFlags.{flags_items}
 use Rattle.motion_grid.specs.Cells as motions
-use Rattle.motion_code.specs.Moves.{AreKept, HasShort, MayAllStand, coded_leaves}
+use Rattle.motion_code.specs.Moves.{AreKept, HasShort, coded_leaves}
 use Rattle.motion_code.proofs.MoveWalks.{units_items, units_are}
 use Rattle.row_coder.specs.Sources.{picture_source}
 use Rattle.row_coder.proofs.Walks.{GiveSame, gives_same, ctu_units}
@@ -77,14 +77,7 @@ module _ (kind : SliceKind) (size : Size) (picture : Picture) where
       units_are (move_unit kind near) size before units ctu tree
       ∙ (units_same before units (ctu_units size ctu (coded_leaves units) tree) ∙ sym (units_are (move_unit kind whole) size before units ctu tree))
 
-pub stand_at : (t : Task) (kind : SliceKind) (list units : List MoveLeaf) → kind ≡ kind_of_task t → list ≡ units → MayAllStand (kind_of_task t) units → MayAllStand kind list
-stand_at t kind list units ek e allowed = subst (λ (k : SliceKind). MayAllStand k list) (sym ek) (subst (MayAllStand (kind_of_task t)) (sym e) allowed)
-
 module _ (t : Task) (ctu : ℕ) where
-  pub tree_at : (size : Size) (list units : List MoveLeaf) → size ≡ size_of_task t → list ≡ units → IsLawfulTree (size_of_task t) ctu (coded_leaves units) → IsLawfulTree size ctu (coded_leaves list)
-  tree_at size list units es e tree =
-      subst (λ (s : Size). IsLawfulTree s ctu (coded_leaves list)) (sym es) (subst (λ (l : List MoveLeaf). IsLawfulTree (size_of_task t) ctu (coded_leaves l)) (sym e) tree)
-
   -- what is written is the definition's
   pub written : (grid : Cells) (motion : motions.Cells) (source : Source) (kind : SliceKind) (size : Size) (units : List MoveLeaf) (x y : Meaning) → IsReady t grid motion source ctu → kind ≡ kind_of_task t
       → size ≡ size_of_task t → units ≡ get_or (all_units t) ctu [] → IsLawfulTree (size_of_task t) ctu (coded_leaves units)

@@ -17,12 +17,12 @@ use std::alloc::Global;
 use std::marker::Model;
 use std::sync::Arc;
 
-/// Codes the pictures of a recording, one after another, each as one slice: a picture with a number that KEY divides as an
-/// IDR picture, and each other one with blocks that are copied from places of the one before. With KEY 0 only the first is
-/// an IDR picture.
+/// Codes the pictures of a recording, one after another, each as one slice: a picture with a number that KEY divides
+/// as an IDR picture, and each other one with blocks that are copied from places of the one before. With KEY 0 only
+/// the first is an IDR picture.
 ///
-/// It stands for the list of pictures that it has coded. Contracts see its settings, the number of these pictures, and the
-/// last of them.
+/// It stands for the list of pictures that it has coded. Contracts see its settings, the number of these pictures,
+/// and the last of them.
 #[derive(Drop)]
 pub struct MoveEncoder {
     history: History,
@@ -41,8 +41,8 @@ impl Model for MoveEncoder {
 }
 
 impl MoveEncoder {
-    /// An encoder for pictures of this size that has coded none. `effort` (0 to 2) names the intra modes that are tried;
-    /// `key` is the distance of IDR pictures.
+    /// An encoder for pictures of this size that has coded none. `effort` (0 to 2) names the intra modes that are
+    /// tried; `key` is the distance of IDR pictures.
     ///
     /// # Errors
     ///
@@ -71,11 +71,11 @@ impl MoveEncoder {
         self.history.first()
     }
 
-    /// Lays a job over the picture before, codes the picture that it gives on the caller's thread, and gives its piece of the
-    /// stream: a start code and a NAL unit.
+    /// Lays a job over the picture before, codes the picture that it gives on the caller's thread, and gives its
+    /// piece of the stream: a start code and a NAL unit.
     ///
-    /// The job has the number of the pictures before. Where it lists all tiles in which the new picture differs, the piece is
-    /// the one that the definition has for that picture, of any pictures before that the encoder stands for.
+    /// The job has the number of the pictures before. Where it lists all tiles in which the new picture differs, the
+    /// piece is the one that the definition has for that picture, of any pictures before that the encoder stands for.
     ///
     /// # Errors
     ///
@@ -117,3 +117,6 @@ impl MoveEncoder {
         Ok(piece)
     }
 }
+
+#[cfg(test)]
+mod tests;

@@ -42,8 +42,8 @@ fn still_units(leaves: &[Leaf]) -> MoveLeaves
     units
 }
 
-/// The coding units of a coding tree unit after those that `motion` stands for. An IDR picture copies nothing: its units are
-/// those of a picture in which no blocks move.
+/// The coding units of a coding tree unit after those that `motion` stands for. An IDR picture copies nothing: its
+/// units are those of a picture in which no blocks move.
 pub(crate) fn plan_ctu<L: Ledger>(
     task: &Task,
     motion: &MotionGrid,

@@ -1,11 +1,10 @@
 use Rattle.std.proofs.Common.{◌≡◌, ◌∙◌, ap}
-use Rattle.std.specs.Prelude.{Option, None, option_map}
-use Rattle.h265_model.specs.Plain.{Picture}
+use Rattle.std.specs.Prelude.{None, option_map}
 use Rattle.h265_model.specs.Tree.{coded_first}
 use Rattle.px_plane.specs.Planes.{picture_of}
 use Rattle.picture_encoder.specs.Planning.{reference_of_task}
 use Rattle.row_moves.specs.Moves.{all_units}
-use Rattle.row_moves.proofs.Units.{ArePlanned, after_picture, alone}
+use Rattle.row_moves.proofs.Units.{after_picture, alone}
 use Rattle.row_moves.proofs.plan.plan_ctu.Goals as goal
 
 pub returns-in-Some-clause-chosen : goal.returns-in-Some-clause-chosen

@@ -1,23 +1,13 @@
-use Rattle.std.proofs.Common.{◌≡◌, ap, sym, subst, ◌∙◌, List}
-use Rattle.h265_model.specs.Plain.{Size}
-use Rattle.h265_model.specs.declared.leaf.SliceKind.{SliceKind}
+use Rattle.std.proofs.Common.{ap, sym, subst, ◌∙◌, List}
 use Rattle.h265_model.specs.declared.moves.MoveLeaf.{MoveLeaf}
 use Rattle.h265_model.specs.Tree.{IsLawfulTree}
 use Rattle.px_plane.specs.Planes.{Planes, picture_of}
 use Rattle.cabac_bytes.specs.State.{stands_for}
-use Rattle.motion_code.specs.Moves.{MayAllStand, coded_leaves}
+use Rattle.motion_code.specs.Moves.{coded_leaves}
 use Rattle.row_coder.specs.Sources.{picture_source}
 use Rattle.picture_encoder.specs.Planning.{size_of_task}
-use Rattle.row_moves.proofs.Writing.{written, one_ready, tree_at, stand_at}
+use Rattle.row_moves.proofs.Writing.{written, one_ready}
 use Rattle.row_moves.proofs.writer.PictureWriterUnitWriter.write_ctu.Goals as goal
-
-pub write_ctu_moves-requires-clause-tree : goal.write_ctu_moves-requires-clause-tree
-write_ctu_moves-requires-clause-tree g c =
-    tree_at c.args.self.now.task c.args.ctu c.size-size.result c.as_slice.result.now c.plan_ctu-units.result (c.size-size.ensures.value ∙ ap (λ (p : Planes). p.size) c.deref.ensures) c.as_slice.ensures c.plan_ctu-units.ensures.tree
-
-pub write_ctu_moves-requires-clause-allowed : goal.write_ctu_moves-requires-clause-allowed
-write_ctu_moves-requires-clause-allowed g c =
-    stand_at c.args.self.now.task c.kind-kind.result c.as_slice.result.now c.plan_ctu-units.result c.kind-kind.ensures c.as_slice.ensures c.plan_ctu-units.ensures.allowed
 
 pub returns-clause-taken : goal.returns-clause-taken
 returns-clause-taken g c =
