@@ -1,0 +1,11 @@
+pub mod Calls
+pub mod NumberSteps
+pub mod HeadParts
+pub mod Filling
+pub mod Colours
+pub mod FrameRows
+pub mod WholeFrames
+pub mod Likeness
+pub mod FrameParts
+pub mod Written
+pub mod Clean
