@@ -1,0 +1,3 @@
+pub mod Desktop
+pub mod Lines
+pub mod Parts
