@@ -1,9 +1,8 @@
 -- The raster in a picture that shows some colours.
-use Rattle.std.proofs.Common.{◌≡◌, refl, sym, ◌∙◌, ap, subst, ℕ, ◌+◌, ◌*◌, ◌<◌, ◌≤◌, Bool, true, false, List, cond, get_or, arith}
-use Rattle.std.specs.Prelude.{◌&&◌, nat_lt, nat_le}
+use Rattle.std.proofs.Common.{◌≡◌, refl, sym, ◌∙◌, ap, subst, ℕ, ◌+◌, ◌<◌, true, arith}
+use Rattle.std.specs.Prelude.{◌&&◌, nat_lt}
 use Rattle.std.proofs.lemmas.Bool.{lt-ltb, le-leb, and_from, cond-true}
 use Rattle.h265_model.specs.Plain.{Size, Picture, place_values}
-use Rattle.h265_model.specs.declared.rect.Rect.{Rect}
 use Rattle.h265_model.specs.declared.rgb.Rgb.{Rgb}
 use Rattle.h265_model.specs.Raster.{Raster, black, black_raster, component, coded_picture, crop, paints}
 use Rattle.h265_model.proofs.Squares.{same_places}

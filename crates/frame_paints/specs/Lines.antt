@@ -1,5 +1,5 @@
 -- Lines that a script gets while they are painted.
-use Rattle.std.specs.Prelude.{◌≡◌, ℕ, List, ◌++◌, Bool, false, fold, if◌then◌else◌}
+use Rattle.std.specs.Prelude.{◌≡◌, List, ◌++◌, false, fold, if◌then◌else◌}
 use Rattle.std.specs.List.{AllByRecursion}
 use Rattle.h265_model.specs.Plain.{Picture}
 use Rattle.h265_model.specs.Raster.{paints}

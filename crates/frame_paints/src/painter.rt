@@ -5,6 +5,7 @@ ghost use Rattle.recorder_model.specs.declared.line.Line.{Line};
 ghost use Rattle.recorder_model.specs.Painting.{raster, rasters_after};
 ghost use Rattle.frame_paints.specs.Desktop.{raster_of, painted_over, with_rows, added, IsLonger};
 
+use crate::squares::mend_rows;
 use h265_model::{NoMemory, Rect, Rgb};
 use paint_script::Script;
 use px_plane::{Picture, Size};
@@ -18,6 +19,7 @@ use std::marker::Model;
 #[derive(Debug, Drop)]
 pub struct FramePainter {
     shown: Picture,
+    alloc: Global,
 }
 
 impl Model for FramePainter {
@@ -41,7 +43,7 @@ impl FramePainter {
         ensures { IfOk result (λ painter. painter ≡ record { size = size; shown = black_raster size }) }
     {
         let shown = Picture::black(alloc, size)?;
-        Ok(FramePainter { shown })
+        Ok(FramePainter { shown, alloc })
     }
 
     /// Makes the desktop black again, for the first frame of another script.
@@ -84,7 +86,8 @@ impl FramePainter {
         if script.lines() == u32::MAX {
             return Err(NoMemory);
         }
-        script.add(Line::Cut)
+        script.add(Line::Cut)?;
+        Ok(())
     }
 
     /// Adds to a script the lines that make the desktop show a frame in the rows from `top` up to `bottom`, as one of several
@@ -111,7 +114,7 @@ impl FramePainter {
             → raster self.old.size (before ++ added script.old script.new) ≡ self.new.shown }
         ensures uncut { (before : List Line) → rasters_after self.old.size before (added script.old script.new) ≡ [] }
     {
-        let _ = (frame.size(), script.version(), top, bottom);
-        Err(NoMemory)
+        let _size = frame.size();
+        mend_rows(self.alloc, &mut self.shown, frame, top, bottom, script)
     }
 }

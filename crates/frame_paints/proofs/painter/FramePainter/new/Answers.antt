@@ -1,8 +1,6 @@
 use Rattle.std.proofs.Common.{◌≡◌, ◌∙◌, ap}
-use Rattle.h265_model.specs.Plain.{Size}
 use Rattle.h265_model.specs.Raster.{black, black_raster}
 use Rattle.px_plane.specs.Planes.{Planes}
-use Rattle.frame_paints.specs.Desktop.{Desktop, raster_of}
 use Rattle.frame_paints.proofs.Shown.{raster_shown, shows_itself, desktop_is}
 use Rattle.frame_paints.proofs.painter.FramePainter.new.Goals as goal
 

@@ -1,8 +1,7 @@
-use Rattle.std.proofs.Common.{◌≡◌, ◌∙◌, ap, ◌*◌, sym, subst}
+use Rattle.std.proofs.Common.{◌≡◌, ◌∙◌, ap, subst}
 use Rattle.h265_model.specs.Plain.{Size}
 use Rattle.h265_model.specs.Raster.{black, black_raster}
 use Rattle.h265_model.specs.declared.rect.Rect.{Rect}
-use Rattle.recorder_model.specs.Painting.{Shown}
 use Rattle.px_plane.specs.Planes.{ShowsColours, repainted}
 use Rattle.frame_paints.specs.Desktop.{Desktop}
 use Rattle.frame_paints.proofs.Shown.{all_black, shows_itself, own_colours, own_shown, desktop_is}
