@@ -46,6 +46,13 @@ impl FramePainter {
         Ok(FramePainter { shown, alloc })
     }
 
+    /// The size of the desktop.
+    pub fn size(&self) -> Size
+        ensures { result ≡ self.now.size }
+    {
+        self.shown.size()
+    }
+
     /// Makes the desktop black again, for the first frame of another script.
     pub fn restart(&mut self)
         ensures { self.new ≡ record { size = self.old.size; shown = black_raster self.old.size } }
