@@ -4,3 +4,4 @@ pub mod Parts
 pub mod Patches
 pub mod Pixels
 pub mod Shown
+pub mod InRows

@@ -1,5 +1,5 @@
 -- Lines that a script gets while they are painted.
-use Rattle.std.specs.Prelude.{◌≡◌, List, ◌++◌, false, fold, if◌then◌else◌}
+use Rattle.std.specs.Prelude.{◌≡◌, List, ◌++◌, false, fold, if◌then◌else◌, ℕ}
 use Rattle.std.specs.List.{AllByRecursion}
 use Rattle.h265_model.specs.Plain.{Picture}
 use Rattle.h265_model.specs.Raster.{paints}
@@ -10,6 +10,7 @@ use Rattle.recorder_model.specs.Script.{is_cut}
 use Rattle.recorder_model.specs.Painting.{Shown, painted}
 use Rattle.px_plane.specs.Planes.{Planes, picture_of, ShowsColours, filled, blitted, copied}
 use Rattle.paint_script.specs.Scripts.{Script}
+use Rattle.frame_paints.specs.Parts.{KeptBeside}
 
 -- the samples after a line is painted
 abbrev pub drawn : Planes → Line → Picture
@@ -26,6 +27,11 @@ pub record Went (shown : Planes) (script : Script) (shown_after : Planes) (scrip
   pub added : script_after.lines ≡ script.lines ++ lines
   pub paint : AllByRecursion (λ line. is_cut line ≡ false) lines
   pub shows : (before : Shown) → ShowsColours shown before → ShowsColours shown_after (fold (painted shown.size) before lines)
+
+-- these lines paint in the rows from top to before bottom alone
+pub record PaintsIn (shown : Planes) (script : Script) (shown_after : Planes) (script_after : Script) (top bottom : ℕ) : Type 0 where
+  pub went : Went shown script shown_after script_after
+  pub beside : KeptBeside shown shown_after 0 shown.size.w top bottom
 
 -- the samples after a rectangle is painted as a frame has it
 abbrev pub patched : Planes → Planes → Rect → Picture

@@ -47,3 +47,16 @@ pub record HasSample (p : Planes) (r : Rect) (c sample : ℕ) : Type 0 where
 -- it has one colour there
 pub record HasColour (p : Planes) (r : Rect) (colour : Rgb) : Type 0 where
   pub each : (c : ℕ) → c < 3 → HasSample p r c (component c colour)
+
+-- a rectangle in a desktop
+pub record IsPlaced (size : Size) (r : Rect) : Type 0 where
+  pub wide : 1 ≤ r.w
+  pub high : 1 ≤ r.h
+  pub across : r.x + r.w ≤ size.w
+  pub down : r.y + r.h ≤ size.h
+
+-- a rectangle in the rows from top to before bottom of a desktop
+pub record IsInRows (size : Size) (r : Rect) (top bottom : ℕ) : Type 0 where
+  pub placed : IsPlaced size r
+  pub high : top ≤ r.y
+  pub low : r.y + r.h ≤ bottom

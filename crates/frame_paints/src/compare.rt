@@ -1,6 +1,6 @@
 //! Where two pictures differ.
 ghost use Rattle.std.specs.Prelude.{◌≡◌, ℕ, ◌+◌, ◌^◌, ◌<◌, ◌≤◌, length, slice_index, IsTrue, ◌↔◌, IfSome, IsNone};
-ghost use Rattle.frame_paints.specs.Parts.{SameBetween, SameIn, SameBeside, IsPiece, IsPartOf};
+ghost use Rattle.frame_paints.specs.Parts.{SameBetween, SameIn, SameBeside, IsPiece, IsPlaced, IsPartOf};
 
 use px_plane::{Picture, Rect};
 
@@ -159,6 +159,27 @@ pub(crate) fn differing(a: &Picture, b: &Picture, rect: Rect) -> Option<Rect>
     let first = first_row(a, b, rect.x, rect.w, rect.y, bottom);
     let last = last_row(a, b, rect.x, rect.w, first, bottom);
     let (left, right) = columns(a, b, rect.x, right, first, last);
+    if first >= last || left >= right {
+        return None;
+    }
+    Some(Rect {
+        x: left,
+        y: first,
+        w: right - left,
+        h: last - first,
+    })
+}
+
+/// The part of the rows from `top` up to `bottom` beside which the frame is as what is shown.
+pub(crate) fn changed(shown: &Picture, frame: &Picture, top: u32, bottom: u32) -> Option<Rect>
+    requires sizes { frame.now.size ≡ shown.now.size }
+    requires down { (top ≤ bottom) × (bottom ≤ shown.now.size.h) }
+    ensures { IfSome result (IsPlaced shown.now.size) }
+{
+    let w = shown.size().w();
+    let first = first_row(shown, frame, 0, w, top, bottom);
+    let last = last_row(shown, frame, 0, w, first, bottom);
+    let (left, right) = columns(shown, frame, 0, w, first, last);
     if first >= last || left >= right {
         return None;
     }

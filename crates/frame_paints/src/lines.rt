@@ -1,5 +1,5 @@
 //! Lines that are added to a script and painted.
-ghost use Rattle.std.specs.Prelude.{◌≡◌, OnOk, false};
+ghost use Rattle.std.specs.Prelude.{◌≡◌, OnOk, OnErr, false};
 ghost use Rattle.recorder_model.specs.Script.{is_cut};
 ghost use Rattle.recorder_model.specs.Painting.{Shown, painted};
 ghost use Rattle.px_plane.specs.Planes.{Stores, ShowsColours};
@@ -33,6 +33,7 @@ pub(crate) fn put(shown: &mut Picture, script: &mut Script, line: Line) -> Resul
     requires version { IsOfVersion script.old.version line }
     ensures went { Went shown.old script.old shown.new script.new }
     ensures drawn { OnOk result (Stores shown.new (drawn shown.old line)) }
+    ensures unchanged { OnErr result (shown.new ≡ shown.old) }
 {
     let index = script.lines();
     if index == u32::MAX {

@@ -5,7 +5,7 @@ ghost use Rattle.recorder_model.specs.declared.line.Line.{Line};
 ghost use Rattle.recorder_model.specs.Painting.{raster, rasters_after};
 ghost use Rattle.frame_paints.specs.Desktop.{raster_of, painted_over, with_rows, added, IsLonger};
 
-use crate::squares::mend_rows;
+use crate::strips::paint_strip;
 use h265_model::{NoMemory, Rect, Rgb};
 use paint_script::Script;
 use px_plane::{Picture, Size};
@@ -121,7 +121,6 @@ impl FramePainter {
             → raster self.old.size (before ++ added script.old script.new) ≡ self.new.shown }
         ensures uncut { (before : List Line) → rasters_after self.old.size before (added script.old script.new) ≡ [] }
     {
-        let _size = frame.size();
-        mend_rows(self.alloc, &mut self.shown, frame, top, bottom, script)
+        paint_strip(self.alloc, &mut self.shown, frame, top, bottom, script)
     }
 }
