@@ -1,8 +1,9 @@
 -- Parts of pictures, put together.
-use Rattle.std.proofs.Common.{◌≡◌, sym, ◌∙◌, ap, subst, ℕ, zero, suc, ◌+◌, ◌*◌, ◌-◌, ◌<◌, ◌≤◌, List, length, get_or, map, arith}
+use Rattle.std.proofs.Common.{◌≡◌, sym, ◌∙◌, ap, subst, ℕ, zero, suc, ◌+◌, ◌*◌, ◌-◌, ◌<◌, ◌≤◌, List, length, get_or, map, take, drop, arith, rules}
 use Rattle.std.proofs.Math.Logic.{⊎_elim}
 use Rattle.std.proofs.lemmas.Bool.{cases_lt}
 use Rattle.std.proofs.lemmas.Nat.{mul-le}
+use Rattle.std.proofs.lemmas.List.{places, get_or-take, get_or-drop}
 use Rattle.std.proofs.lemmas.List.FromFn.{get_or-map-range_with_len}
 use Rattle.h265_model.specs.Plain.{Size, below}
 use Rattle.h265_model.specs.declared.rect.Rect.{Rect}
@@ -115,3 +116,18 @@ row_has p c left y n sample a of_p long same x hl hr =
     let lt : i < n = omega arith in
     let first : get_or a i 0 ≡ picture_of p c (left + i) y = ap (λ (l : List ℕ). get_or l i 0) of_p ∙ get_or-map-range_with_len (λ i. picture_of p c (left + i) y) 0 n i i 0 lt (omega arith) in
     subst (λ (k : ℕ). picture_of p c k y ≡ sample) at (sym first ∙ same i (omega arith))
+
+-- ---- parts of lists
+
+-- what two lists have in common between two places
+pub chunk_same : (a b : List ℕ) (at n : ℕ) → at + n ≤ length a
+    → ((i : ℕ) → i < length (take n (drop at a)) → get_or (take n (drop at a)) i 0 ≡ get_or (take n (drop at b)) i 0)
+    → (k : ℕ) → at ≤ k → k < at + n → get_or a k 0 ≡ get_or b k 0
+chunk_same a b at n inside same k low high =
+    let i : ℕ = k - at in
+    let lt : i < n = omega arith in
+    let place : at + i ≡ k = omega arith in
+    let long : length (take n (drop at a)) ≡ n = search (places, rules) in
+    let read_a : get_or (take n (drop at a)) i 0 ≡ get_or a (at + i) 0 = get_or-take n (drop at a) i 0 lt ∙ get_or-drop at a i 0 in
+    let read_b : get_or (take n (drop at b)) i 0 ≡ get_or b (at + i) 0 = get_or-take n (drop at b) i 0 lt ∙ get_or-drop at b i 0 in
+    subst (λ (m : ℕ). get_or a m 0 ≡ get_or b m 0) place (sym read_a ∙ (same i (omega arith) ∙ read_b))

@@ -25,14 +25,23 @@ pub(crate) fn colour_of(mixed: u32) -> Rgb {
     }
 }
 
-/// Puts a sample of each pixel of a row behind the others, and marks those that differ.
-pub(crate) fn mix_row(colours: &mut [u32], marks: &mut [bool], new: &[u8], old: &[u8])
-    requires marks { length marks.old ≡ length colours.old }
-    requires new { length new.now ≡ length colours.old }
-    requires old { length old.now ≡ length colours.old }
+/// Puts a sample of each pixel of a row behind the others.
+pub(crate) fn mix_row(colours: &mut [u32], samples: &[u8])
+    requires { length samples.now ≡ length colours.old }
+{
+    for i in 0..samples.len() {
+        colours[i] = colours[i]
+            .wrapping_mul(256)
+            .wrapping_add(u32::from(samples[i]));
+    }
+}
+
+/// Marks the pixels of a row of which a sample differs.
+pub(crate) fn mark_row(marks: &mut [bool], new: &[u8], old: &[u8])
+    requires new { length new.now ≡ length marks.old }
+    requires old { length old.now ≡ length marks.old }
 {
     for i in 0..new.len() {
-        colours[i] = colours[i].wrapping_mul(256).wrapping_add(u32::from(new[i]));
         marks[i] |= new[i] != old[i];
     }
 }

@@ -16,6 +16,25 @@ fn is_same(a: &[u8], b: &[u8]) -> bool
     same
 }
 
+// How many samples are looked at together.
+const CHUNK: usize = 64;
+
+// How many samples two rows have in common from their beginning on, of which a number is known.
+fn front_from(a: &[u8], b: &[u8], known: usize) -> u32
+    requires length { length a.now ≡ length b.now }
+    requires short { length a.now < 2 ^ 32 }
+    requires known { (i : ℕ) → i < known → i < length a.now → slice_index a.now i ≡ slice_index b.now i }
+    ensures within { result ≤ length a.now }
+    ensures same { (i : ℕ) → i < result → slice_index a.now i ≡ slice_index b.now i }
+{
+    for i in known..a.len() {
+        if a[i] != b[i] {
+            return i as u32;
+        }
+    }
+    a.len() as u32
+}
+
 // How many samples two rows have in common from their beginning on.
 fn same_front(a: &[u8], b: &[u8]) -> u32
     requires length { length a.now ≡ length b.now }
@@ -23,12 +42,32 @@ fn same_front(a: &[u8], b: &[u8]) -> u32
     ensures within { result ≤ length a.now }
     ensures same { (i : ℕ) → i < result → slice_index a.now i ≡ slice_index b.now i }
 {
-    for i in 0..a.len() {
-        if a[i] != b[i] {
-            return i as u32;
+    let chunks = a.len() / CHUNK;
+    for chunk in 0..chunks {
+        let at = chunk * CHUNK;
+        if !is_same(&a[at..at + CHUNK], &b[at..at + CHUNK]) {
+            return front_from(a, b, at);
         }
     }
-    a.len() as u32
+    front_from(a, b, chunks * CHUNK)
+}
+
+// Behind which of their samples two rows are the same up to their end, of which a number is known.
+fn back_from(a: &[u8], b: &[u8], known: usize) -> u32
+    requires length { length a.now ≡ length b.now }
+    requires short { length a.now < 2 ^ 32 }
+    requires within { known ≤ length a.now }
+    requires known { (i : ℕ) → known ≤ i → i < length a.now → slice_index a.now i ≡ slice_index b.now i }
+    ensures within { result ≤ length a.now }
+    ensures same { (i : ℕ) → result ≤ i → i < length a.now → slice_index a.now i ≡ slice_index b.now i }
+{
+    for done in 0..known {
+        let i = known - 1 - done;
+        if a[i] != b[i] {
+            return i as u32 + 1;
+        }
+    }
+    0
 }
 
 // Behind which of their samples two rows are the same up to their end.
@@ -39,12 +78,14 @@ fn same_back(a: &[u8], b: &[u8]) -> u32
     ensures same { (i : ℕ) → result ≤ i → i < length a.now → slice_index a.now i ≡ slice_index b.now i }
 {
     let n = a.len();
-    for done in 0..n {
-        if a[n - 1 - done] != b[n - 1 - done] {
-            return (n - done) as u32;
+    let chunks = n / CHUNK;
+    for chunk in 0..chunks {
+        let end = n - chunk * CHUNK;
+        if !is_same(&a[end - CHUNK..end], &b[end - CHUNK..end]) {
+            return back_from(a, b, end);
         }
     }
-    0
+    back_from(a, b, n - chunks * CHUNK)
 }
 
 // Whether two pictures are the same at `n` places of a row, from (x, y) on.

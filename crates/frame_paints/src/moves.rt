@@ -18,8 +18,13 @@ pub(crate) struct Move {
 // How many pixels beside one another are looked for, by their samples of G.
 const KEY: u32 = 32;
 
-// The most places that are looked for.
-const MOST_KEYS: usize = 256;
+// The most places that are looked for, in all and in a row.
+const MOST_KEYS: usize = 512;
+
+const MOST_IN_ROW: u32 = 12;
+
+// Of a high part one row in so many is searched, and as many beside one another are looked for.
+const GROUP: u32 = 4;
 
 // Keys are numbers in base `BASE` with the samples as digits; `BASE` to the power of 32 is `OUT`.
 const BASE: u32 = 0x9E37_79B1;
@@ -133,8 +138,9 @@ impl Keys {
         part: Rect,
         y: u32,
     ) -> Result<(), NoMemory> {
-        for k in 0..part.w / KEY {
-            let x = part.x.saturating_add(k.saturating_mul(KEY));
+        let step = (part.w / MOST_IN_ROW).max(KEY);
+        for k in 0..part.w / step {
+            let x = part.x.saturating_add(k.saturating_mul(step));
             let new = row_at(frame, 0, x, y, KEY);
             let old = row_at(shown, 0, x, y, KEY);
             if changes_in(new) >= CHANGES && (common_front(new, old) as usize) < new.len() {
@@ -340,13 +346,23 @@ fn move_of(shown: &Picture, frame: &Picture, pair: Pair, top: u32, bottom: u32) 
     })
 }
 
-// The places of a part that are looked for.
+// Of how many rows of a part one is searched.
+fn group_of(part: Rect) -> u32
+    ensures { 1 ≤ result }
+{
+    if part.h >= 16 * GROUP { GROUP } else { 1 }
+}
+
+// The places of a part that are looked for: in about 40 rows, as many beside one another as one of them is searched of.
 fn keys_of(alloc: Global, shown: &Picture, frame: &Picture, part: Rect) -> Result<Keys, NoMemory> {
     let mut keys = Keys::new(alloc)?;
-    let step = (part.h / 40).max(1);
-    for k in 0..part.h / step {
-        let y = part.y.saturating_add(k.saturating_mul(step));
-        keys.add_row(shown, frame, part, y)?;
+    let group = group_of(part);
+    let step = (part.h / 40).max(1).saturating_mul(group);
+    for k in 0..part.h / group {
+        let y = (k / group).saturating_mul(step).saturating_add(k % group);
+        if y < part.h {
+            keys.add_row(shown, frame, part, part.y.saturating_add(y))?;
+        }
     }
     Ok(keys)
 }
@@ -359,8 +375,9 @@ fn pair_of(
     keys: &Keys,
 ) -> Result<Option<Pair>, NoMemory> {
     let mut votes = Votes::new(alloc)?;
-    for k in 0..part.h {
-        let y = part.y.saturating_add(k);
+    let group = group_of(part);
+    for k in 0..part.h / group {
+        let y = part.y.saturating_add(k.saturating_mul(group));
         votes.count_row(keys, row_at(shown, 0, part.x, y, part.w), part.x, y);
     }
     Ok(votes.best())

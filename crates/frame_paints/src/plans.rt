@@ -4,7 +4,7 @@ ghost use Rattle.frame_paints.specs.Parts.{IsPiece, IsPlaced};
 
 use crate::blocks::{
     Fill, Lead, SIDE, add_fill, add_solids, colour_of, count_marks, count_others, is_noise,
-    lead_after, mark_others, mix_row,
+    lead_after, mark_others, mark_row, mix_row,
 };
 use crate::compare::{changed, differing, first_row, last_row};
 use h265_model::{NoMemory, Rect};
@@ -13,6 +13,9 @@ use std::alloc::Global;
 
 /// The most pixels that are looked at together.
 const MOST_PIXELS: usize = 4096;
+
+/// About how many rows are looked at for the colour of all that changed.
+const MOST_ROWS: u32 = 64;
 
 /// Pixels that are looked at: the colour of each, and whether it is to be painted.
 #[derive(Drop)]
@@ -42,12 +45,9 @@ impl Work {
         self.colours[at..end].fill(0);
         self.marks[at..end].fill(false);
         for component in 0..3 {
-            mix_row(
-                &mut self.colours[at..end],
-                &mut self.marks[at..end],
-                frame.row(component, x, y, n),
-                shown.row(component, x, y, n),
-            );
+            let new = frame.row(component, x, y, n);
+            mix_row(&mut self.colours[at..end], new);
+            mark_row(&mut self.marks[at..end], new, shown.row(component, x, y, n));
         }
     }
 
@@ -257,38 +257,48 @@ impl Work {
         (next, count_marks(&self.marks[..n]))
     }
 
-    // The colour that leads among what changed, and how many pixels differ.
-    fn lead_of(&mut self, shown: &Picture, frame: &Picture, part: Rect) -> (Lead, u32)
+    // The colour that leads among what changed in some of the rows, and how many pixels differ there.
+    fn lead_of(&mut self, shown: &Picture, frame: &Picture, part: Rect, step: u32) -> (Lead, u32)
         requires sizes { frame.now.size ≡ shown.now.size }
         requires part { IsPlaced shown.now.size part }
+        requires step { 1 ≤ step }
     {
         let mut lead = Lead { colour: 0, by: 0 };
         let mut wrong = 0u32;
         let _size = shown.size();
-        for row in 0..part.h {
-            let (next, count) = self.lead_of_row(shown, frame, part, part.y + row, lead);
+        for k in 0..part.h / step {
+            let y = part.y + k * step;
+            let (next, count) = self.lead_of_row(shown, frame, part, y, lead);
             lead = next;
             wrong = wrong.wrapping_add(count);
         }
         (lead, wrong)
     }
 
-    // How many pixels of a part of the frame have another colour.
-    fn others_of(&mut self, shown: &Picture, frame: &Picture, part: Rect, colour: u32) -> u32
+    // How many pixels of some rows of a part of the frame have another colour.
+    fn others_of(
+        &mut self,
+        shown: &Picture,
+        frame: &Picture,
+        part: Rect,
+        step: u32,
+        colour: u32,
+    ) -> u32
         requires sizes { frame.now.size ≡ shown.now.size }
         requires part { IsPlaced shown.now.size part }
+        requires step { 1 ≤ step }
     {
         let _size = shown.size();
         let n = part.w as usize;
         let mut count = 0u32;
-        for row in 0..part.h {
-            self.load_row(shown, frame, part.x, part.y + row, part.w, 0);
+        for k in 0..part.h / step {
+            self.load_row(shown, frame, part.x, part.y + k * step, part.w, 0);
             count = count.wrapping_add(count_others(&self.colours[..n], colour));
         }
         count
     }
 
-    /// A fill of all that changed in the rows from `top` up to `bottom`, if it puts an eighth of that right.
+    /// A fill of all that changed in the rows from `top` up to `bottom`, if it is likely to put an eighth of that right.
     pub(crate) fn ground_of(
         &mut self,
         shown: &Picture,
@@ -300,8 +310,9 @@ impl Work {
         requires down { (top ≤ bottom) × (bottom ≤ shown.now.size.h) }
     {
         let part = changed(shown, frame, top, bottom)?;
-        let (lead, wrong) = self.lead_of(shown, frame, part);
-        let after = self.others_of(shown, frame, part, lead.colour);
+        let step = (part.h / MOST_ROWS).max(1);
+        let (lead, wrong) = self.lead_of(shown, frame, part, step);
+        let after = self.others_of(shown, frame, part, step, lead.colour);
         let saved = wrong.saturating_sub(after);
         if saved >= 16 && saved >= wrong / 8 {
             let colour = colour_of(lead.colour);
