@@ -33,7 +33,10 @@ const OUT: u32 = 0x53FD_A601;
 
 const SLOTS: usize = 4096;
 
-const VOTES: usize = 1024;
+const VOTES: usize = 4096;
+
+// How many of the moves with the most votes are tried.
+const TRIED: u32 = 4;
 
 // How often a colour changes in a key at least.
 const CHANGES: u32 = 4;
@@ -156,7 +159,7 @@ impl Keys {
 #[derive(Drop)]
 struct Votes {
     votes: Vec<Vote>,
-    ghost whole: { length votes.items ≡ 1024 },
+    ghost whole: { length votes.items ≡ 4096 },
 }
 
 impl Votes {
@@ -196,19 +199,20 @@ impl Votes {
         }
     }
 
-    // The pair of the most votes.
-    fn best(&self) -> Option<Pair> {
-        let mut best = self.votes[0];
+    // The pair of the most votes, which are given up.
+    fn take_best(&mut self) -> Option<Pair> {
+        let mut best = 0;
         for k in 1..VOTES {
-            if self.votes[k].count > best.count {
-                best = self.votes[k];
+            if self.votes[k].count > self.votes[best].count {
+                best = k;
             }
         }
-        if best.count >= FEWEST_VOTES {
-            Some(best.pair)
-        } else {
-            None
+        let Vote { count, pair, .. } = self.votes[best];
+        if count < FEWEST_VOTES {
+            return None;
         }
+        self.votes[best].count = 0;
+        Some(pair)
     }
 
     // Counts each place of a row of what is shown that has the key of a place of the frame.
@@ -367,20 +371,29 @@ fn keys_of(alloc: Global, shown: &Picture, frame: &Picture, part: Rect) -> Resul
     Ok(keys)
 }
 
-// The pair of the move that most places of a part made.
-fn pair_of(
-    alloc: Global,
-    shown: &Picture,
-    part: Rect,
-    keys: &Keys,
-) -> Result<Option<Pair>, NoMemory> {
+// How far the places of a part moved that are looked for.
+fn votes_of(alloc: Global, shown: &Picture, part: Rect, keys: &Keys) -> Result<Votes, NoMemory> {
     let mut votes = Votes::new(alloc)?;
     let group = group_of(part);
     for k in 0..part.h / group {
         let y = part.y.saturating_add(k.saturating_mul(group));
         votes.count_row(keys, row_at(shown, 0, part.x, y, part.w), part.x, y);
     }
-    Ok(votes.best())
+    Ok(votes)
+}
+
+// The larger one of two moves.
+fn larger(one: Option<Move>, other: Option<Move>) -> Option<Move> {
+    match (one, other) {
+        (Some(a), Some(b)) if size_of(a) >= size_of(b) => Some(a),
+        (Some(a), None) => Some(a),
+        _ => other,
+    }
+}
+
+// How many pixels move.
+fn size_of(a: Move) -> u32 {
+    a.rect.w.wrapping_mul(a.rect.h)
 }
 
 /// A rectangle of what is shown in the rows from `top` up to `bottom` that the frame has at another place there.
@@ -401,8 +414,12 @@ pub(crate) fn find_move(
         return Ok(None);
     }
     let keys = keys_of(alloc, shown, frame, part)?;
-    match pair_of(alloc, shown, part, &keys)? {
-        None => Ok(None),
-        Some(pair) => Ok(move_of(shown, frame, pair, top, bottom)),
+    let mut votes = votes_of(alloc, shown, part, &keys)?;
+    let mut found = None;
+    for _ in 0..TRIED {
+        if let Some(pair) = votes.take_best() {
+            found = larger(found, move_of(shown, frame, pair, top, bottom));
+        }
     }
+    Ok(found)
 }
