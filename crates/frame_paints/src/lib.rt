@@ -14,3 +14,6 @@ mod squares;
 mod strips;
 
 pub use painter::FramePainter;
+
+#[cfg(test)]
+mod tests;

@@ -98,7 +98,7 @@ impl FramePainter {
     }
 
     /// Adds to a script the lines that make the desktop show a frame in the rows from `top` up to `bottom`, as one of several
-    /// clients paints its strip. The other rows stay as they are, and no line reads them.
+    /// clients paints its strip. The other rows stay as they are.
     ///
     /// # Errors
     ///
