@@ -1,0 +1,14 @@
+use Rattle.std.proofs.Common.{◌+◌, arith}
+use Rattle.frame_paints.proofs.Parts.{samples_same, row_between}
+use Rattle.frame_paints.proofs.compare.first_column.Goals as goal
+
+pub returns-clause-same : goal.returns-clause-same
+returns-clause-same c =
+    let p = c.args.a.now in
+    let q = c.args.b.now in
+    let left = c.args.left in
+    let red = c.same_front-red.result in
+    row_between p q left (left + red) c.args.y
+    (λ x hl hr. samples_same p q 0 left c.args.y _ 0 red c.row.result.now c.row-2.result.now c.row.ensures.samples c.row-2.ensures.samples (omega arith) (λ i low high. c.same_front-green.ensures.same i (omega arith)) x (omega arith) hr)
+    (λ x hl hr. samples_same p q 1 left c.args.y _ 0 red c.row-3.result.now c.row-4.result.now c.row-3.ensures.samples c.row-4.ensures.samples (omega arith) (λ i low high. c.same_front-blue.ensures.same i (omega arith)) x (omega arith) hr)
+    (λ x hl hr. samples_same p q 2 left c.args.y _ 0 red c.row-5.result.now c.row-6.result.now c.row-5.ensures.samples c.row-6.ensures.samples (omega arith) (λ i low high. c.same_front-red.ensures.same i high) x (omega arith) hr)

@@ -1,0 +1,4 @@
+pub mod Desktop
+pub mod Lines
+pub mod Parts
+pub mod Pixels
